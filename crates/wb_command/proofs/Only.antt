@@ -143,7 +143,7 @@ one_meant (Some p) a b m n = one_wanted p.0 p.1 a b m n
 no_refusal : (words : List Text) (asked : Wanted) (e : CommandErr) → Asks words asked → Refuses words e → e ≡ NoMemory
 no_refusal words asked (Help shown) asks h = absurd (subst (IsAmong _) asks.0 h.0)
 no_refusal words asked (BadCommandLine shown) asks h = absurd (subst (IsAmong _) asks.0 h.0)
-no_refusal words asked NothingMeant asks h = absurd (h.1 asked asks.1)
+no_refusal words asked (NothingMeant why) asks h = absurd (h.0.1 asked asks.1)
 no_refusal words asked NoMemory asks h = refl
 
 -- an answer that meets the other clauses is the only one

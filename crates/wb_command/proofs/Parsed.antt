@@ -9,8 +9,9 @@ use Rattle.clap.specs.declared.error.kind.ErrorKind.{ErrorKind}
 use Rattle.clap.specs.declared.error.kind.ErrorKind.TheVariants.{OutOfMemory}
 use Rattle.clap.specs.declared.parser.matches.ArgMatches.{ArgMatches}
 use Rattle.clap.proofs.OnLiterals.{clap_on_literals}
-use Rattle.wb_command.specs.Asks.{Asks, IsMeant, IsRequest, Refuses, Tells, program}
+use Rattle.wb_command.specs.Asks.{Asks, IsMeant, IsMisfit, IsRequest, Refuses, Tells, program}
 use Rattle.wb_command.specs.declared.Wanted.{Wanted}
+use Rattle.wb_command.specs.declared.misfit.Misfit.{Misfit}
 use Rattle.wb_command.specs.declared.CommandErr.{CommandErr}
 use Rattle.wb_command.specs.declared.CommandErr.TheVariants.{Help, BadCommandLine, NothingMeant, NoMemory}
 
@@ -54,15 +55,16 @@ module _ (command : Command) (built : app_of command ≡ program) (words : List 
 -- the answer to words that clap takes
 pub answer_asked : (words : List Text) (r : Option Wanted) (m : ArgMatches) → fault_of program words ≡ [] → subcommand_rows_of m ≡ subcommand_of program words
     → MatchOption r ((asked : Wanted) → IsMeant (subcommand_rows_of m) asked → ⊥) (IsMeant (subcommand_rows_of m))
-    → IfOk (ok_or r NothingMeant) (Asks words)
-answer_asked words None m none found read = tt
-answer_asked words (Some asked) m none found read = (none, subst (λ o. IsMeant o asked) found read)
+    → (why : Misfit) → IfOk (ok_or r (NothingMeant why)) (Asks words)
+answer_asked words None m none found read why = tt
+answer_asked words (Some asked) m none found read why = (none, subst (λ o. IsMeant o asked) found read)
 
 pub answer_refused : (words : List Text) (r : Option Wanted) (m : ArgMatches) → fault_of program words ≡ [] → subcommand_rows_of m ≡ subcommand_of program words
     → MatchOption r ((asked : Wanted) → IsMeant (subcommand_rows_of m) asked → ⊥) (IsMeant (subcommand_rows_of m))
-    → IfErr (ok_or r NothingMeant) (Refuses words)
-answer_refused words None m none found read = (none, λ asked meant. read asked (subst (λ o. IsMeant o asked) (sym found) meant))
-answer_refused words (Some asked) m none found read = tt
+    → (why : Misfit) → IsMisfit (subcommand_rows_of m) why → IfErr (ok_or r (NothingMeant why)) (Refuses words)
+answer_refused words None m none found read why misfit =
+    ((none, λ asked meant. read asked (subst (λ o. IsMeant o asked) (sym found) meant)), subst (λ o. IsMisfit o why) found misfit)
+answer_refused words (Some asked) m none found read why misfit = tt
 
 -- the answer to words that clap refuses
 pub answer_told : (words : List Text) (e : Error) (x : CommandErr) → HasKind (fault_of program words) e → Tells e x → Refuses words x
@@ -74,5 +76,5 @@ answer_told words e (BadCommandLine shown) (inl memory) told = absurd (told.2 me
 answer_told words e (BadCommandLine shown) (inr among) told =
     let same = ap kind_of (sym told.0) in
     (subst (λ k. IsAmong k (fault_of program words)) same among, λ request. told.1 (subst IsRequest (sym same) request))
-answer_told words e NothingMeant kind told = absurd told
+answer_told words e (NothingMeant why) kind told = absurd told
 answer_told words e NoMemory kind told = tt

@@ -1,7 +1,7 @@
 -- What the words of a command line ask for. How words are read is clap's: `--workers 4` or `--workers=4`, options in any
 -- order, what is said twice, `--`. clap's `fault_of` lists what it refuses of the words for a command that is written out
 -- as here, and `subcommand_of` gives the subcommand that they name with what was found for its options.
-use Rattle.std.specs.Prelude.{◌≡◌, ◌≢◌, ◌⊎◌, ◌<◌, ◌^◌, ℕ, Bool, true, false, List, [], ◌∷◌, Option, Some, None, IsSomeAnd, ⊤, pos, codes, bytes_eq, unwrap_or}
+use Rattle.std.specs.Prelude.{◌≡◌, ◌≢◌, ◌⊎◌, ◌<◌, ◌^◌, ℕ, Bool, true, false, List, [], ◌∷◌, Option, Some, None, IsSomeAnd, ⊤, pos, codes, bytes_eq, is_some, unwrap_or}
 use Rattle.std.specs.Option.{option_map_or}
 use Rattle.std.specs.Str.Parse.{IsNumeral, digits_value, without_leading_plus}
 use Rattle.clap.specs.Words.{App, Row, Rule, Shape, Text, IsAmong, fault_of, first_of, kind_of, new_rule, one_of, subcommand_of}
@@ -18,6 +18,8 @@ use Rattle.wb_command.specs.declared.Place.TheVariants.{Port, Socket}
 use Rattle.wb_command.specs.declared.Stay.{Stay}
 use Rattle.wb_command.specs.declared.Wanted.{Wanted}
 use Rattle.wb_command.specs.declared.Wanted.TheVariants as wanted
+use Rattle.wb_command.specs.declared.misfit.Misfit.{Misfit}
+use Rattle.wb_command.specs.declared.misfit.Misfit.TheVariants as misfits
 use Rattle.wb_command.specs.declared.CommandErr.{CommandErr}
 use Rattle.wb_command.specs.declared.CommandErr.TheVariants.{Help, BadCommandLine, NothingMeant, NoMemory}
 
@@ -203,16 +205,57 @@ HasMistake words kind = HasFault words kind × (IsRequest kind → ⊥)
 abbrev pub AsksNothing : List Text → Type 0
 AsksNothing words = (fault_of program words ≡ []) × ((asked : Wanted) → IsMeant (subcommand_of program words) asked → ⊥)
 
+-- which options of a desk that stays don't go together, or are missing
+abbrev pub misfit_of_stay : (resume port socket : Bool) → Misfit
+misfit_of_stay true port socket = misfits.StayAndResume
+misfit_of_stay false true true = misfits.PortAndSocket
+misfit_of_stay false false false = misfits.NoPlace
+misfit_of_stay false true false = misfits.Other
+misfit_of_stay false false true = misfits.Other
+
+-- the same of a desk of one day on a port
+abbrev pub misfit_of_day : (idle quiet resume journal : Bool) → Misfit
+misfit_of_day true quiet resume journal = misfits.Idle
+misfit_of_day false true resume journal = misfits.Quiet
+misfit_of_day false false true true = misfits.JournalAndResume
+misfit_of_day false false true false = misfits.Other
+misfit_of_day false false false journal = misfits.Other
+
+-- the same of a desk of one day
+abbrev pub misfit_of_place : (socket port idle quiet resume journal : Bool) → Misfit
+misfit_of_place true port idle quiet resume journal = misfits.Socket
+misfit_of_place false false idle quiet resume journal = misfits.NoPort
+misfit_of_place false true idle quiet resume journal = misfit_of_day idle quiet resume journal
+
+-- the same of a desk, by whether it stays
+abbrev pub misfit_by : (stay socket port idle quiet resume journal : Bool) → Misfit
+misfit_by true socket port idle quiet resume journal = misfit_of_stay resume port socket
+misfit_by false socket port idle quiet resume journal = misfit_of_place socket port idle quiet resume journal
+
+-- a word was found for the name
+abbrev pub has : Text → List Row → Bool
+has name found = is_some (word_of name found)
+
+-- the same of what was found for the options of a desk
+abbrev pub misfit_of : List Row → Misfit
+misfit_of found = misfit_by (is_set (codes "stay") found) (has (codes "socket") found) (has (codes "port") found) (has (codes "idle") found)
+    (is_set (codes "quiet") found) (is_set (codes "resume") found) (has (codes "journal") found)
+
+-- what doesn't fit of the command that the words name: nothing is told of one that is no desk
+abbrev pub IsMisfit : Option (Text × List Row) → Misfit → Type 0
+IsMisfit None why = why ≡ misfits.Other
+IsMisfit (Some p) why = ((p.0 ≡ codes "serve") × (why ≡ misfit_of p.1)) ⊎ ((p.0 ≢ codes "serve") × (why ≡ misfits.Other))
+
 -- why the words ask for nothing; want of memory has no cause
 abbrev pub Refuses : List Text → CommandErr → Type 0
 Refuses words (Help shown) = HasFault words (kind_of shown) × IsRequest (kind_of shown)
 Refuses words (BadCommandLine shown) = HasMistake words (kind_of shown)
-Refuses words NothingMeant = AsksNothing words
+Refuses words (NothingMeant why) = AsksNothing words × IsMisfit (subcommand_of program words) why
 Refuses words NoMemory = ⊤
 
 -- an error of clap's, as the program tells it
 abbrev pub Tells : Error → CommandErr → Type 0
 Tells error (Help shown) = (shown ≡ error) × IsRequest (kind_of error)
 Tells error (BadCommandLine shown) = (shown ≡ error) × (IsRequest (kind_of error) → ⊥) × (kind_of error ≢ OutOfMemory)
-Tells error NothingMeant = ⊥
+Tells error (NothingMeant why) = ⊥
 Tells error NoMemory = kind_of error ≡ OutOfMemory

@@ -9,10 +9,15 @@ ghost use Rattle.clap.specs.declared.builder.command.Command.TheViews.{out-Comma
 ghost use Rattle.wb_command.specs.Asks.{Asks, HasNumber, HasWorkers, IsMeant, IsOptional, IsPlace, Means, MeansAny, Refuses, Tells, is_set, word_of};
 ghost use Rattle.wb_command.specs.Asks as spec;
 
+use crate::misfit::misfit_in;
 use clap::error::ErrorKind;
 use clap::{Arg, ArgAction, ArgMatches, Command};
 use std::alloc::{AllocError, Global};
 use std::marker::Model;
+
+mod misfit;
+
+pub use crate::misfit::Misfit;
 
 const VERSION: &str = "0.1.0";
 
@@ -173,8 +178,8 @@ pub enum CommandErr {
     Help(clap::Error),
     /// clap refuses them, and says why in its error.
     BadCommandLine(clap::Error),
-    /// clap refuses nothing of them, but what it finds asks for nothing: the options don't go together.
-    NothingMeant,
+    /// clap refuses nothing of them, but what it finds asks for nothing: these options don't go together, or one is missing.
+    NothingMeant(Misfit),
     /// A growth was refused.
     NoMemory,
 }
@@ -188,7 +193,7 @@ pub fn command_of<'a>(alloc: Global, words: &'a [&'a str]) -> Result<Wanted<'a>,
 {
     let command = program(alloc).map_err(|_| CommandErr::NoMemory)?;
     match command.try_get_matches_from(words) {
-        Ok(matches) => read_off(&matches).ok_or(CommandErr::NothingMeant),
+        Ok(matches) => { read_off(&matches).ok_or(CommandErr::NothingMeant(misfit_in(&matches))) }
         Err(error) => Err(error_of(error)),
     }
 }

@@ -1,3 +1,6 @@
+pub mod Spots
+pub mod Registers
+pub mod Differences
 pub mod Replies
 pub mod Courses
 pub mod Parts

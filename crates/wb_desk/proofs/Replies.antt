@@ -1,5 +1,5 @@
 -- Which replies leave the history.
-use Rattle.std.proofs.Common.{◌≡◌, ℕ, zero, suc, List, Bool, true, false, Option, Some, None, Ok, Err, MatchBool, Result, ap}
+use Rattle.std.proofs.Common.{◌≡◌, ℕ, zero, suc, List, [], ◌∷◌, Bool, true, false, ◌&&◌, Option, Some, None, Ok, Err, MatchBool, Result, ap, refl, sym, subst}
 use Rattle.wb_history.specs.Past.{Past}
 use Rattle.wb_history.specs.declared.query.Answer.{Answer}
 use Rattle.wb_log.specs.declared.refusal.Refusal.{Refusal}
@@ -11,7 +11,12 @@ use Rattle.wb_protocol.specs.declared.replies.reply.Reply.TheVariants.{Edited, U
 use Rattle.wb_protocol.specs.declared.requests.request.Request.{Request}
 use Rattle.wb_protocol.specs.declared.requests.request.Request.TheVariants.{Change, Undo, Redo, Cascade, Dependents, Ask, Print, History, Edits, Explain}
 use Rattle.wb_desk.specs.Entries.{is_entered, is_long, leaves_all, cascade_in}
-use Rattle.wb_desk.specs.Records.{is_set, sets_or_asks, sets_element}
+use Rattle.wb_cells.specs.Cells.{Name}
+use Rattle.wb_edit.specs.declared.edit.Edit.TheVariants as edits
+use Rattle.wb_desk.specs.declared.brief.Brief.{Brief}
+use Rattle.wb_desk.specs.declared.brief.Brief.TheVariants.{Set, SetPair, Get, GetPair, GetTriple, Where, WherePair, WhereTriple, Size, Reduce, Piece}
+use Rattle.wb_desk.specs.Briefs.{request_of, is_new_value, point_of}
+use Rattle.wb_desk.specs.Records.{is_edited, is_question}
 use Rattle.wb_desk.specs.Courses.{Course}
 use Rattle.wb_desk.specs.Serving.{Enters, AnswersCourse}
 
@@ -194,54 +199,112 @@ course_left c k asked r d a e = by_entered (is_entered r) a
     by_entered true enters = left c.history asked r d.history enters.reply e
     by_entered false same = ap (λ (x : Course). x.history) same
 
--- What is kept by its numbers leaves the history, but for a new value that was accepted.
-change_leaves : (p : Past) (e : _) (r : Reply) (q : Past) → is_set e ≡ true → Step p (Change e) r q → sets_element (Change e) r ≡ false → q ≡ p
-change_leaves p e (Edited k n) q set s off = cc (set, off)
-change_leaves p e (Undone k n) q set s off = absurd s
-change_leaves p e (Cascaded ks n) q set s off = absurd s
-change_leaves p e (Redone k n) q set s off = absurd s
-change_leaves p e (Listed ks) q set s off = absurd s
-change_leaves p e (Answered a) q set s off = absurd s
-change_leaves p e (Printed t) q set s off = absurd s
-change_leaves p e (PrintedFrom n t) q set s off = absurd s
-change_leaves p e (Counted n w) q set s off = absurd s
-change_leaves p e (Explained wrong) q set s off = absurd s
-change_leaves p e (Refused why) q set s off = refused_leaves p (Change e) why q s
+-- A reply to a new value of an element that does not accept it leaves the history, and so does a reply to a question.
+change_leaves : (p : Past) (e : _) (r : Reply) (q : Past) → Step p (Change e) r q → is_edited r ≡ false → q ≡ p
+change_leaves p e (Edited k n) q s off = cc
+change_leaves p e (Undone k n) q s off = absurd s
+change_leaves p e (Cascaded ks n) q s off = absurd s
+change_leaves p e (Redone k n) q s off = absurd s
+change_leaves p e (Listed ks) q s off = absurd s
+change_leaves p e (Answered a) q s off = absurd s
+change_leaves p e (Printed t) q s off = absurd s
+change_leaves p e (PrintedFrom n t) q s off = absurd s
+change_leaves p e (Counted n w) q s off = absurd s
+change_leaves p e (Explained wrong) q s off = absurd s
+change_leaves p e (Refused why) q s off = refused_leaves p (Change e) why q s
 
-ask_leaves : (p : Past) (a : _) (r : Reply) (q : Past) → Step p (Ask a) r q → q ≡ p
-ask_leaves p a (Edited k n) q s = absurd s
-ask_leaves p a (Undone k n) q s = absurd s
-ask_leaves p a (Cascaded ks n) q s = absurd s
-ask_leaves p a (Redone k n) q s = absurd s
-ask_leaves p a (Listed ks) q s = absurd s
-ask_leaves p a (Answered v) q s = answered_leaves p (Ask a) v q s
-ask_leaves p a (Printed t) q s = absurd s
-ask_leaves p a (PrintedFrom n t) q s = absurd s
-ask_leaves p a (Counted n w) q s = absurd s
-ask_leaves p a (Explained wrong) q s = absurd s
-ask_leaves p a (Refused why) q s = refused_leaves p (Ask a) why q s
+not_edited : (r : Reply) → (is_edited r && true) ≡ false → is_edited r ≡ false
+not_edited (Edited k n) off = cc
+not_edited (Undone k n) off = refl
+not_edited (Cascaded ks n) off = refl
+not_edited (Redone k n) off = refl
+not_edited (Listed ks) off = refl
+not_edited (Answered a) off = refl
+not_edited (Printed t) off = refl
+not_edited (PrintedFrom n t) off = refl
+not_edited (Counted n w) off = refl
+not_edited (Explained wrong) off = refl
+not_edited (Refused why) off = refl
 
-edits_leaves : (p : Past) (r : Reply) (q : Past) → Step p Edits r q → q ≡ p
-edits_leaves p (Edited k n) q s = absurd s
-edits_leaves p (Undone k n) q s = absurd s
-edits_leaves p (Cascaded ks n) q s = absurd s
-edits_leaves p (Redone k n) q s = absurd s
-edits_leaves p (Listed ks) q s = absurd s
-edits_leaves p (Answered a) q s = absurd s
-edits_leaves p (Printed t) q s = absurd s
-edits_leaves p (PrintedFrom n t) q s = absurd s
-edits_leaves p (Counted n w) q s = s.2
-edits_leaves p (Explained wrong) q s = absurd s
-edits_leaves p (Refused why) q s = absurd s
+-- No question is replied by what a change is.
+edited_is_no_question : (p : Past) (asked : Request) (k n : ℕ) (q : Past) → is_question asked ≡ true → Step p asked (Edited k n) q → q ≡ p
+edited_is_no_question p (Change e) k n q question s = cc
+edited_is_no_question p (Undo x) k n q question s = cc
+edited_is_no_question p (Redo x) k n q question s = cc
+edited_is_no_question p (Cascade x) k n q question s = cc
+edited_is_no_question p (Dependents x) k n q question s = absurd s
+edited_is_no_question p (Ask x) k n q question s = absurd s
+edited_is_no_question p Print k n q question s = absurd s
+edited_is_no_question p (History None) k n q question s = absurd s
+edited_is_no_question p (History (Some x)) k n q question s = absurd s
+edited_is_no_question p Edits k n q question s = absurd s
+edited_is_no_question p (Explain line) k n q question s = absurd s
 
-pub element_leaves : (p : Past) (asked : Request) (r : Reply) (q : Past) → sets_or_asks asked ≡ true → Step p asked r q → sets_element asked r ≡ false → q ≡ p
-element_leaves p (Change e) r q small s off = change_leaves p e r q small s off
-element_leaves p (Ask a) r q small s off = ask_leaves p a r q s
-element_leaves p (Undo k) r q small s off = cc
-element_leaves p (Redo k) r q small s off = cc
-element_leaves p (Cascade k) r q small s off = cc
-element_leaves p (Dependents k) r q small s off = cc
-element_leaves p Print r q small s off = cc
-element_leaves p (History from) r q small s off = cc
-element_leaves p Edits r q small s off = edits_leaves p r q s
-element_leaves p (Explain line) r q small s off = cc
+undone_is_no_question : (p : Past) (asked : Request) (k n : ℕ) (q : Past) → is_question asked ≡ true → Step p asked (Undone k n) q → q ≡ p
+undone_is_no_question p (Change e) k n q question s = cc
+undone_is_no_question p (Undo x) k n q question s = cc
+undone_is_no_question p (Redo x) k n q question s = cc
+undone_is_no_question p (Cascade x) k n q question s = cc
+undone_is_no_question p (Dependents x) k n q question s = absurd s
+undone_is_no_question p (Ask x) k n q question s = absurd s
+undone_is_no_question p Print k n q question s = absurd s
+undone_is_no_question p (History None) k n q question s = absurd s
+undone_is_no_question p (History (Some x)) k n q question s = absurd s
+undone_is_no_question p Edits k n q question s = absurd s
+undone_is_no_question p (Explain line) k n q question s = absurd s
+
+redone_is_no_question : (p : Past) (asked : Request) (k n : ℕ) (q : Past) → is_question asked ≡ true → Step p asked (Redone k n) q → q ≡ p
+redone_is_no_question p (Change e) k n q question s = cc
+redone_is_no_question p (Undo x) k n q question s = cc
+redone_is_no_question p (Redo x) k n q question s = cc
+redone_is_no_question p (Cascade x) k n q question s = cc
+redone_is_no_question p (Dependents x) k n q question s = absurd s
+redone_is_no_question p (Ask x) k n q question s = absurd s
+redone_is_no_question p Print k n q question s = absurd s
+redone_is_no_question p (History None) k n q question s = absurd s
+redone_is_no_question p (History (Some x)) k n q question s = absurd s
+redone_is_no_question p Edits k n q question s = absurd s
+redone_is_no_question p (Explain line) k n q question s = absurd s
+
+cascaded_is_no_question : (p : Past) (asked : Request) (k : List ℕ) (n : ℕ) (q : Past) → is_question asked ≡ true → Step p asked (Cascaded k n) q → q ≡ p
+cascaded_is_no_question p (Change e) k n q question s = cc
+cascaded_is_no_question p (Undo x) k n q question s = cc
+cascaded_is_no_question p (Redo x) k n q question s = cc
+cascaded_is_no_question p (Cascade x) k n q question s = cc
+cascaded_is_no_question p (Dependents x) k n q question s = absurd s
+cascaded_is_no_question p (Ask x) k n q question s = absurd s
+cascaded_is_no_question p Print k n q question s = absurd s
+cascaded_is_no_question p (History None) k n q question s = absurd s
+cascaded_is_no_question p (History (Some x)) k n q question s = absurd s
+cascaded_is_no_question p Edits k n q question s = absurd s
+cascaded_is_no_question p (Explain line) k n q question s = absurd s
+
+pub question_leaves : (p : Past) (asked : Request) (r : Reply) (q : Past) → is_question asked ≡ true → Step p asked r q → q ≡ p
+question_leaves p asked (Listed ks) q question s = listed_leaves p asked ks q s
+question_leaves p asked (Answered a) q question s = answered_leaves p asked a q s
+question_leaves p asked (Printed t) q question s = printed_leaves p asked t q s
+question_leaves p asked (PrintedFrom n t) q question s = printed_from_leaves p asked n t q s
+question_leaves p asked (Counted n w) q question s = counted_leaves p asked n w q s
+question_leaves p asked (Explained wrong) q question s = explained_leaves p asked wrong q s
+question_leaves p asked (Refused why) q question s = refused_leaves p asked why q s
+question_leaves p asked (Edited k n) q question s = edited_is_no_question p asked k n q question s
+question_leaves p asked (Undone k n) q question s = undone_is_no_question p asked k n q question s
+question_leaves p asked (Cascaded ks n) q question s = cascaded_is_no_question p asked ks n q question s
+question_leaves p asked (Redone k n) q question s = redone_is_no_question p asked k n q question s
+
+-- Of what is asked of a name only a new value that was accepted changes the history.
+pub brief_leaves : (p : Past) (a : Name) (b : Brief) (r : Reply) (q : Past) → Step p (request_of a b) r q → (is_edited r && is_new_value b) ≡ false → q ≡ p
+brief_leaves p a (Set i v) r q s off = change_leaves p (edits.Set a (point_of (i ∷ [])) v) r q s (not_edited r off)
+brief_leaves p a (SetPair i j v) r q s off = change_leaves p (edits.Set a (point_of (i ∷ j ∷ [])) v) r q s (not_edited r off)
+brief_leaves p a (Get i) r q s off = question_leaves p (request_of a (Get i)) r q refl s
+brief_leaves p a (GetPair i j) r q s off = question_leaves p (request_of a (GetPair i j)) r q refl s
+brief_leaves p a (GetTriple i j k) r q s off = question_leaves p (request_of a (GetTriple i j k)) r q refl s
+brief_leaves p a (Where i) r q s off = question_leaves p (request_of a (Where i)) r q refl s
+brief_leaves p a (WherePair i j) r q s off = question_leaves p (request_of a (WherePair i j)) r q refl s
+brief_leaves p a (WhereTriple i j k) r q s off = question_leaves p (request_of a (WhereTriple i j k)) r q refl s
+brief_leaves p a Size r q s off = question_leaves p (request_of a Size) r q refl s
+brief_leaves p a (Reduce op) r q s off = question_leaves p (request_of a (Reduce op)) r q refl s
+brief_leaves p a (Piece l) r q s off = question_leaves p (request_of a (Piece l)) r q refl s
+
+pub placed_leaves : (p : Past) (asked : Request) (a : Name) (b : Brief) (r : Reply) (q : Past) → request_of a b ≡ asked → Step p asked r q → (is_edited r && is_new_value b) ≡ false → q ≡ p
+placed_leaves p asked a b r q is s off = brief_leaves p a b r q (subst (λ (x : Request). Step p x r q) (sym is) s) off

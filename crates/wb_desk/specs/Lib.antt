@@ -1,5 +1,9 @@
 pub mod Entries
+pub mod Briefs
+pub mod Asked
 pub mod Records
+pub mod Tables
+pub mod Placings
 pub mod Courses
 pub mod Serving
 pub mod Settling

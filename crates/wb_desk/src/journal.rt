@@ -7,7 +7,6 @@ ghost use Rattle.wb_desk.specs.Settling.{FirstDifference, IsSettled, IsCause};
 ghost use Rattle.wb_desk.specs.Serving.{Knows, IsStrange, Enters, entry, own_after, share_after, AnswersCourse};
 ghost use Rattle.wb_desk.specs.Early.{LetsGo};
 
-use crate::entry::Record;
 use crate::pass::Pass;
 use crate::records::{Records, answer_at, clear_at, difference_at, no_records};
 use crate::settling::{Cause, Difference, first_cause};
@@ -110,7 +109,7 @@ impl Journal {
     }
 
     // Whether a seat is one of the desk's, and so many of its entries are kept.
-    fn knows(&self, seat: usize, own: &[Record]) -> bool
+    fn knows(&self, seat: usize, own: &Records) -> bool
         ensures { MatchBool result (Knows self.now seat own.now) (¬ Knows self.now seat own.now) }
     {
         if seat >= self.lists.len() {
@@ -124,15 +123,15 @@ impl Journal {
         &mut self,
         alloc: Global,
         seat: usize,
-        own: &mut Vec<Record>,
+        own: &mut Records,
         request: Request,
         mover: &M,
     ) -> Result<Reply, NoMemory>
-        requires { Knows self.old seat own.old.items }
+        requires { Knows self.old seat own.old }
         ensures ok { IfOk result (λ r. (is_entered r ≡ true) × Enters self.old seat request r self.new ×
-            (own.new.items ≡ own.old.items ++ entry seat request r ∷ [])) }
+            (own.new ≡ own.old ++ entry seat request r ∷ [])) }
         ensures count { IfOk result (λ r. count_of self.new.entries ≡ count_of self.old.entries + 1) }
-        ensures err { OnErr result ((self.new ≡ self.old) × (own.new.items ≡ own.old.items)) }
+        ensures err { OnErr result ((self.new ≡ self.old) × (own.new ≡ own.old)) }
     {
         if self.count == usize::MAX {
             return Err(NoMemory);
@@ -159,16 +158,16 @@ impl Journal {
         &mut self,
         alloc: Global,
         seat: usize,
-        own: &mut Vec<Record>,
+        own: &mut Records,
         request: Request,
         mover: &M,
     ) -> Reply
-        ensures strange { IsStrange self.old seat own.old.items result }
+        ensures strange { IsStrange self.old seat own.old result }
         ensures answers { AnswersCourse self.old seat request result self.new }
         ensures count { count_of self.new.entries ≡ share_after (count_of self.old.entries) result }
-        ensures own { own.new.items ≡ own_after seat own.old.items request result }
+        ensures own { own.new ≡ own_after seat own.old request result }
     {
-        if !self.knows(seat, own.as_slice()) {
+        if !self.knows(seat, own) {
             return Reply::Refused(Refusal::StrangePass);
         }
         match self.answer_known(alloc, seat, own, request, mover) {
@@ -182,12 +181,12 @@ impl Journal {
         &mut self,
         alloc: Global,
         seat: usize,
-        own: &mut Vec<Record>,
+        own: &mut Records,
     ) -> Result<usize, Difference>
-        ensures ok { IfOk result (λ n. LetsGo self.old seat own.old.items n self.new × (own.new.items ≡ [])) }
+        ensures ok { IfOk result (λ n. LetsGo self.old seat own.old n self.new × (own.new ≡ [])) }
         ensures count { IfOk result (λ n. count_of self.new.entries + n ≡ count_of self.old.entries) }
-        ensures err { IfErr result (λ why. FirstDifference (list_of self.old.entries seat) own.old.items why.place × (self.new ≡ self.old) ×
-            (own.new.items ≡ own.old.items)) }
+        ensures err { IfErr result (λ why. FirstDifference (list_of self.old.entries seat) own.old why.place × (self.new ≡ self.old) ×
+            (own.new ≡ own.old)) }
     {
         if seat >= self.lists.len() {
             if own.len() == 0 {
@@ -195,12 +194,12 @@ impl Journal {
             }
             return Err(Difference { place: 0 });
         }
-        match difference_at(self.lists.as_slice(), seat, own.as_slice()) {
+        match difference_at(self.lists.as_slice(), seat, own) {
             Some(place) => Err(Difference { place }),
             None => {
                 let count = own.len();
                 clear_at(&mut self.lists, seat, alloc);
-                *own = Vec::new(alloc);
+                own.clear(alloc);
                 self.count -= count;
                 self.settled = self.settled.saturating_add(count as u64);
                 Ok(count)

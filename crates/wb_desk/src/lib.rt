@@ -3,13 +3,20 @@
 //! A desk: one workbook that several seats share, with the journal of all that was asked and replied.
 #![tactic(auto)]
 
+mod at_index;
+mod brief;
 mod counted;
 mod desk;
+mod entering;
 mod entry;
+mod form;
 mod journal;
 mod opening;
 mod pass;
+mod placing;
+mod plain;
 mod records;
+mod register;
 mod replying;
 mod settling;
 mod shared;
@@ -17,7 +24,7 @@ mod turn;
 
 pub use crate::counted::Counted;
 pub use crate::desk::{Desk, DeskErr, Unsettled, settle};
-pub use crate::entry::{CountedEdits, Entry, Form, LentEntry, NewElement, ReadElement, Record};
+pub use crate::entry::{Entry, LentEntry};
 pub use crate::journal::Journal;
 pub use crate::opening::Opening;
 pub use crate::pass::Pass;

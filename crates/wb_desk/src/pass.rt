@@ -2,14 +2,14 @@
 
 ghost use Rattle.std.specs.Prelude.{◌≡◌, length};
 
-use crate::entry::Record;
+use crate::records::Records;
 use std::marker::Model;
 use std::sync::ledger::{Ledger, Share};
 
 /// One seat's pass: the list of its own entries that are not settled yet, and its share of the desk's ledger, which has as many units.
 pub struct Pass<L: Ledger> {
     pub(crate) seat: usize,
-    pub(crate) own: Vec<Record>,
+    pub(crate) own: Records,
     pub(crate) share: Share<L>,
 }
 
@@ -32,25 +32,25 @@ impl<L: Ledger> Model for Pass<L> {
 
     ghost coded = { held_code };
 
-    ghost view = { λ a. record { seat = a.seat; own = a.own.items; share = a.share.amount } };
+    ghost view = { λ a. record { seat = a.seat; own = a.own; share = a.share.amount } };
 
-    ghost invariant = { λ a. (a.share.amount ≡ length a.own.items) × (a.share.parts ≡ 1) };
+    ghost invariant = { λ a. (a.share.amount ≡ length a.own) × (a.share.parts ≡ 1) };
 }
 
 impl<L: Ledger> Pass<L> {
     /// A pass of its parts. A desk answers a pass that isn't one of its own, as it stands, that it is strange.
-    pub fn of_parts(seat: usize, own: Vec<Record>, share: Share<L>) -> Pass<L>
-        requires amount { share.amount ≡ length own.items }
+    pub fn of_parts(seat: usize, own: Records, share: Share<L>) -> Pass<L>
+        requires amount { share.amount ≡ length own }
         requires parts { share.parts ≡ 1 }
-        ensures { result ≡ record { seat = seat; own = own.items; share = share.amount } }
+        ensures { result ≡ record { seat = seat; own = own; share = share.amount } }
     {
         Pass { seat, own, share }
     }
 
     /// The seat, the entries and the share of a pass that is given up.
-    pub fn into_parts(self) -> (usize, Vec<Record>, Share<L>)
+    pub fn into_parts(self) -> (usize, Records, Share<L>)
         ensures seat { result.0 ≡ self.seat }
-        ensures own { result.1.items ≡ self.own }
+        ensures own { result.1 ≡ self.own }
         ensures share { (result.2.amount ≡ self.share) × (result.2.amount ≡ length self.own) × (result.2.parts ≡ 1) }
     {
         let Pass { seat, own, share } = self;
@@ -65,10 +65,10 @@ impl<L: Ledger> Pass<L> {
     }
 
     /// The entries of the seat's own requests, in order.
-    pub fn own(&self) -> &[Record]
+    pub fn own(&self) -> &Records
         ensures own { result.now ≡ self.now.own }
         ensures share { self.now.share ≡ length self.now.own }
     {
-        self.own.as_slice()
+        &self.own
     }
 }

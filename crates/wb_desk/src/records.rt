@@ -1,14 +1,17 @@
 //! The records of a seat.
 
-ghost use Rattle.std.specs.Prelude.{◌≡◌, ◌<◌, ◌++◌, ◌∷◌, [], true, length, slice_set, IfOk, OnErr, MatchOption};
+ghost use Rattle.std.specs.Prelude.{◌≡◌, ◌<◌, ◌-◌, ◌++◌, ◌∷◌, [], true, length, slice_get, slice_set, IfOk, OnOk, OnErr, MatchOption};
+ghost use Rattle.std.specs.Bool.{Decides};
 ghost use Rattle.wb_protocol.specs.Machine.{Step};
 ghost use Rattle.wb_desk.specs.Courses.{empty_lists, list_of};
 ghost use Rattle.wb_desk.specs.Entries.{is_entered};
+ghost use Rattle.wb_desk.specs.Records.{lent_in};
 ghost use Rattle.wb_desk.specs.Serving.{entry};
 ghost use Rattle.wb_desk.specs.Settling.{FirstDifference};
 
-use crate::entry::Record;
-use crate::replying::recorded;
+use crate::entering::{answer_in, enter_alone};
+use crate::entry::{Entry, LentEntry};
+use crate::register::Register;
 use std::alloc::Global;
 use std::marker::Model;
 use wb_arrays::Mover;
@@ -16,34 +19,37 @@ use wb_history::History;
 use wb_protocol::{Reply, Request};
 use wb_range::NoMemory;
 
-/// The records of a seat that are kept, in order. Contracts see the entries.
+/// The entries of a seat that are kept, in order, each in the form that takes the least room. Contracts see the entries.
 pub struct Records {
-    records: Vec<Record>,
+    register: Register,
 }
 
 // In a function of its own, so that a crate above need not prove anew how each field is let go.
 impl Drop for Records {
     fn drop(self) {
-        let Records { records: _ } = self;
+        let Records { register: _ } = self;
     }
 }
 
 impl Model for Records {
     ghost use Rattle.std.specs.Prelude.{List};
     ghost use Rattle.wb_desk.specs.declared.entry.Entry.{Entry};
+    ghost use Rattle.wb_desk.specs.Records.{IsKept, entries_in};
 
     ghost Value = { List Entry };
 
-    ghost view = { λ a. a.records.items };
+    ghost view = { λ a. entries_in a.register };
+
+    ghost invariant = { λ a. IsKept a.register };
 }
 
 impl Records {
-    // No records.
-    fn new(alloc: Global) -> Records
+    /// No entries. Those of this seat will take the least room.
+    pub fn new(alloc: Global, seat: usize) -> Records
         ensures { result ≡ [] }
     {
         Records {
-            records: Vec::new(alloc),
+            register: Register::new(alloc, seat),
         }
     }
 
@@ -51,21 +57,48 @@ impl Records {
     pub fn len(&self) -> usize
         ensures { result ≡ length self.now }
     {
-        self.records.len()
+        self.register.len()
     }
 
-    /// The records.
-    pub fn as_slice(&self) -> &[Record]
-        ensures { result.now ≡ self.now }
+    /// Whether there are none.
+    pub fn is_empty(&self) -> bool
+        ensures { Decides result (self.now ≡ []) }
     {
-        self.records.as_slice()
+        self.register.len() == 0
     }
 
-    // All are let go, and their memory with them.
-    fn clear(&mut self, alloc: Global)
+    /// The entry at a place, from 0.
+    pub fn get(&self, place: usize) -> Option<LentEntry<'_>>
+        ensures { lent_in result ≡ slice_get self.now place }
+    {
+        self.register.entry(place)
+    }
+
+    /// The latest entry.
+    pub fn last(&self) -> Option<LentEntry<'_>>
+        ensures { lent_in result ≡ slice_get self.now (length self.now - 1) }
+    {
+        let len = self.len();
+        if len == 0 {
+            return None;
+        }
+        self.get(len - 1)
+    }
+
+    /// Adds an entry at the end; or none, where no memory is left.
+    pub fn push(&mut self, alloc: Global, entry: Entry) -> Result<(), NoMemory>
+        ensures ok { OnOk result (self.new ≡ self.old ++ entry ∷ []) }
+        ensures err { OnErr result (self.new ≡ self.old) }
+    {
+        enter_alone(alloc, entry, &mut self.register)
+    }
+
+    /// All are let go, and their memory with them.
+    pub(crate) fn clear(&mut self, alloc: Global)
         ensures { self.new ≡ [] }
     {
-        self.records = Vec::new(alloc);
+        let seat = self.register.seat();
+        self.register = Register::new(alloc, seat);
     }
 }
 
@@ -74,8 +107,8 @@ pub(crate) fn no_records(alloc: Global, seats: usize) -> Result<Vec<Records>, No
     ensures { IfOk result (λ v. v.items ≡ empty_lists seats) }
 {
     let mut lists = Vec::new(alloc);
-    for _seat in 0..seats {
-        if lists.push(Records::new(alloc)).is_err() {
+    for seat in 0..seats {
+        if lists.push(Records::new(alloc, seat)).is_err() {
             return Err(NoMemory);
         }
     }
@@ -89,23 +122,22 @@ fn answer_into<M: Mover>(
     seat: usize,
     request: Request,
     list: &mut Records,
-    own: &mut Vec<Record>,
+    own: &mut Records,
     mover: &M,
 ) -> Result<Reply, NoMemory>
     ensures ok { IfOk result (λ r. (is_entered r ≡ true) × Step history.old request r history.new × (list.new ≡ list.old ++ entry seat request r ∷ []) ×
-        (own.new.items ≡ own.old.items ++ entry seat request r ∷ [])) }
-    ensures err { OnErr result ((history.new ≡ history.old) × (list.new ≡ list.old) × (own.new.items ≡ own.old.items)) }
+        (own.new ≡ own.old ++ entry seat request r ∷ [])) }
+    ensures err { OnErr result ((history.new ≡ history.old) × (list.new ≡ list.old) × (own.new ≡ own.old)) }
 {
-    if list.records.reserve(1).is_err() {
-        return Err(NoMemory);
-    }
-    if own.reserve(1).is_err() {
-        return Err(NoMemory);
-    }
-    let (reply, first, second) = recorded(alloc, history, seat, request, mover)?;
-    list.records.push_reserved(first);
-    own.push_reserved(second);
-    Ok(reply)
+    answer_in(
+        alloc,
+        history,
+        seat,
+        request,
+        &mut list.register,
+        &mut own.register,
+        mover,
+    )
 }
 
 /// Answers a request of a seat, and enters it with the reply in the seat's list and among its own records; or in neither,
@@ -116,14 +148,14 @@ pub(crate) fn answer_at<M: Mover>(
     seat: usize,
     request: Request,
     lists: &mut Vec<Records>,
-    own: &mut Vec<Record>,
+    own: &mut Records,
     mover: &M,
 ) -> Result<Reply, NoMemory>
     requires { seat < length lists.old.items }
     ensures ok { IfOk result (λ r. (is_entered r ≡ true) × Step history.old request r history.new ×
         (lists.new.items ≡ slice_set lists.old.items seat (list_of lists.old.items seat ++ entry seat request r ∷ [])) ×
-        (own.new.items ≡ own.old.items ++ entry seat request r ∷ [])) }
-    ensures err { OnErr result ((history.new ≡ history.old) × (lists.new.items ≡ lists.old.items) × (own.new.items ≡ own.old.items)) }
+        (own.new ≡ own.old ++ entry seat request r ∷ [])) }
+    ensures err { OnErr result ((history.new ≡ history.old) × (lists.new.items ≡ lists.old.items) × (own.new ≡ own.old)) }
 {
     let list = &mut lists[seat];
     answer_into(alloc, history, seat, request, list, own, mover)
@@ -138,13 +170,25 @@ pub(crate) fn clear_at(lists: &mut Vec<Records>, seat: usize, alloc: Global)
     list.clear(alloc);
 }
 
+// Whether two lists have the same entry at a place, which both have.
+fn is_same_at(entries: &Records, own: &Records, place: usize) -> bool
+    requires entries { place < length entries.now }
+    requires own { place < length own.now }
+    ensures { Decides result (slice_get entries.now place ≡ slice_get own.now place) }
+{
+    match (entries.get(place), own.get(place)) {
+        (Some(entry), Some(other)) => entry.is_same(&other),
+        _ => unreachable!(),
+    }
+}
+
 // The first place where two lists differ.
-fn first_difference(entries: &[Record], own: &[Record]) -> Option<usize>
+fn first_difference(entries: &Records, own: &Records) -> Option<usize>
     ensures { MatchOption result (entries.now ≡ own.now) (λ i. FirstDifference entries.now own.now i) }
 {
     let mut place = 0;
     while place < entries.len() && place < own.len() {
-        if !entries[place].is_same(&own[place]) {
+        if !is_same_at(entries, own, place) {
             return Some(place);
         }
         place += 1;
@@ -156,9 +200,9 @@ fn first_difference(entries: &[Record], own: &[Record]) -> Option<usize>
 }
 
 /// The first place where the list of a seat and another list differ.
-pub(crate) fn difference_at(lists: &[Records], seat: usize, own: &[Record]) -> Option<usize>
+pub(crate) fn difference_at(lists: &[Records], seat: usize, own: &Records) -> Option<usize>
     requires { seat < length lists.now }
     ensures { MatchOption result (list_of lists.now seat ≡ own.now) (λ i. FirstDifference (list_of lists.now seat) own.now i) }
 {
-    first_difference(lists[seat].as_slice(), own)
+    first_difference(&lists[seat], own)
 }

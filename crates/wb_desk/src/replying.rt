@@ -1,14 +1,14 @@
-// One request answered by a history, with a record of it for the journal and another one for the pass.
+// One request answered by a history.
 ghost use Rattle.std.specs.Prelude.{◌≡◌, Bool, true, false, None, Ok, IfOk, OnErr};
 ghost use Rattle.wb_history.specs.Cascades.{DependentsReply, OfNumber};
 ghost use Rattle.wb_history.specs.Past.{meant};
 ghost use Rattle.wb_protocol.specs.Machine.{Step};
 ghost use Rattle.wb_protocol.specs.declared.requests.request.Request.TheVariants.{Cascade};
 ghost use Rattle.wb_desk.specs.Entries.{is_told, is_entered, is_long, cascade_in};
-ghost use Rattle.wb_desk.specs.Records.{sets_or_asks};
+ghost use Rattle.wb_desk.specs.Records.{is_question};
 ghost use Rattle.wb_desk.specs.Serving.{entry};
 
-use crate::entry::{Entry, Record, is_of_numbers, small_record};
+use crate::entry::Entry;
 use std::alloc::Global;
 use wb_arrays::Mover;
 use wb_history::{History, Refusal, Undoer};
@@ -194,95 +194,59 @@ fn opened(alloc: Global, seat: usize, request: Request) -> Result<Box<Entry>, No
     )?)
 }
 
-// The record of a request and its reply.
-fn copied_entry(
-    alloc: Global,
-    seat: usize,
-    request: &Request,
-    reply: &Reply,
-) -> Result<Record, NoMemory>
-    ensures { IfOk result (λ x. x ≡ entry seat request.now reply.now) }
-{
-    let request = request.copy(alloc)?;
-    let reply = reply.copy(alloc)?;
-    Record::whole(
-        alloc,
-        Entry {
-            seat,
-            request,
-            reply,
-        },
-    )
-}
-
-// Answers a request that asks for an element, for a new value of one, or how many edits there are: the reply, and two
-// records of it.
-fn recorded_small<M: Mover>(
+/// Answers any request: the reply, and two entries of it. Memory for these is taken first; where none is left, nothing is
+/// changed.
+pub(crate) fn boxed<M: Mover>(
     alloc: Global,
     history: &mut History,
     seat: usize,
-    asked: &Request,
     request: Request,
     mover: &M,
-) -> Result<(Reply, Record, Record), NoMemory>
-    requires same { asked.now ≡ request }
-    requires element { sets_or_asks request ≡ true }
-    ensures ok { IfOk result (λ r. (is_entered r.0 ≡ true) × Step history.old request r.0 history.new × (r.1 ≡ entry seat request r.0) ×
-        (r.2 ≡ entry seat request r.0)) }
+) -> Result<(Reply, Box<Entry>, Box<Entry>), NoMemory>
+    ensures ok { IfOk result (λ r. (is_entered r.0 ≡ true) × Step history.old request r.0 history.new × (r.1.value ≡ entry seat request r.0) ×
+        (r.2.value ≡ entry seat request r.0)) }
     ensures err { OnErr result (history.new ≡ history.old) }
 {
-    let reply = answer_request(alloc, history, request, mover);
-    if !is_entered(&reply) {
-        return Err(NoMemory);
-    }
-    if let Some(first) = small_record(seat, asked, &reply) {
-        if let Some(second) = small_record(seat, asked, &reply) {
-            return Ok((reply, first, second));
-        }
-    }
-    let first = copied_entry(alloc, seat, asked, &reply)?;
-    let second = copied_entry(alloc, seat, asked, &reply)?;
-    Ok((reply, first, second))
-}
-
-// Answers any request: room for the two records is made first.
-fn recorded_any<M: Mover>(
-    alloc: Global,
-    history: &mut History,
-    seat: usize,
-    asked: Request,
-    request: Request,
-    mover: &M,
-) -> Result<(Reply, Record, Record), NoMemory>
-    requires same { asked ≡ request }
-    ensures ok { IfOk result (λ r. (is_entered r.0 ≡ true) × Step history.old request r.0 history.new × (r.1 ≡ entry seat request r.0) ×
-        (r.2 ≡ entry seat request r.0)) }
-    ensures err { OnErr result (history.new ≡ history.old) }
-{
-    let told = asked.copy(alloc)?;
+    let asked = request.copy(alloc)?;
+    let told = request.copy(alloc)?;
     let mut first = opened(alloc, seat, asked)?;
     let mut second = opened(alloc, seat, told)?;
     let (reply, one, other) = replied(alloc, history, request, mover)?;
     first.reply = one;
     second.reply = other;
-    Ok((reply, Record::of_box(first), Record::of_box(second)))
+    Ok((reply, first, second))
 }
 
-/// Answers a request of a seat: the reply, and two records of both. Where no memory is left, nothing is changed.
-pub(crate) fn recorded<M: Mover>(
+/// Whether a request is a question, which changes nothing.
+pub(crate) fn is_question(request: &Request) -> bool
+    ensures { result ≡ is_question request.now }
+{
+    match request {
+        Request::Dependents(_)
+        | Request::Ask(_)
+        | Request::Print
+        | Request::History(_)
+        | Request::Edits
+        | Request::Explain(_) => true,
+        Request::Change(_) | Request::Undo(_) | Request::Redo(_) | Request::Cascade(_) => false,
+    }
+}
+
+/// Answers a question, which leaves the history.
+#[tactic(auto, using(crate::proofs::Replies::question_leaves))]
+pub(crate) fn answered_question<M: Mover>(
     alloc: Global,
     history: &mut History,
-    seat: usize,
     request: Request,
     mover: &M,
-) -> Result<(Reply, Record, Record), NoMemory>
-    ensures ok { IfOk result (λ r. (is_entered r.0 ≡ true) × Step history.old request r.0 history.new × (r.1 ≡ entry seat request r.0) ×
-        (r.2 ≡ entry seat request r.0)) }
-    ensures err { OnErr result (history.new ≡ history.old) }
+) -> Result<Reply, NoMemory>
+    requires { is_question request ≡ true }
+    ensures ok { IfOk result (λ r. (is_entered r ≡ true) × Step history.old request r history.new) }
+    ensures left { history.new ≡ history.old }
 {
-    let asked = request.copy(alloc)?;
-    if is_of_numbers(&asked) {
-        return recorded_small(alloc, history, seat, &asked, request, mover);
+    let reply = answer_request(alloc, history, request, mover);
+    if !is_entered(&reply) {
+        return Err(NoMemory);
     }
-    recorded_any(alloc, history, seat, asked, request, mover)
+    Ok(reply)
 }

@@ -10,7 +10,7 @@ ghost use Rattle.wb_desk.specs.Seats.{IsNumberOfSeats, IsSeatsErr};
 
 use crate::desk::DeskErr;
 use crate::opening::Opening;
-use crate::{Cause, Counted, Difference, Journal, Pass};
+use crate::{Cause, Counted, Difference, Journal, Pass, Records};
 use std::alloc::Global;
 use std::marker::Model;
 use std::sync::ledger::{Blank, Ledger, Share};
@@ -67,7 +67,7 @@ fn first_passes<L: Ledger>(
     let mut passes = Vec::new(alloc);
     for seat in 0..seats {
         let share = rest.split_off(1, 0);
-        let pass = Pass::of_parts(seat, Vec::new(alloc), share);
+        let pass = Pass::of_parts(seat, Records::new(alloc, seat), share);
         if passes.push(pass).is_err() {
             return Err(NoMemory);
         }

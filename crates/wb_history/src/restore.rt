@@ -1,5 +1,5 @@
 //! A history from the list of its edits.
-ghost use Rattle.std.specs.Prelude.{◌≡◌, [], ◌∷◌, ◌++◌, OnOk, IfErr};
+ghost use Rattle.std.specs.Prelude.{◌≡◌, [], ◌∷◌, ◌++◌, OnOk, OnErr, IfErr};
 ghost use Rattle.wb_history.specs.Restored.{one_of, marked, stopped, IsCounted, BeginsNone, RestoreReply};
 
 use crate::history::History;
@@ -38,8 +38,9 @@ fn stopped(why: Refusal) -> RestoreErr
     }
 }
 
-// Puts an edit in as the last one, by its mark.
-fn put_in<M: Mover>(
+/// Puts an edit in as the last one, in force or out of force: one in force is made, one out of force is not tried. `NotLegal` just where
+/// no history has edits that begin so.
+pub fn put_in<M: Mover>(
     history: &mut History,
     edit: Edit,
     in_force: bool,
@@ -48,6 +49,7 @@ fn put_in<M: Mover>(
     ensures entries { OnOk result (history.new.entries ≡ history.old.entries ++ one_of edit in_force ∷ []) }
     ensures counted { OnOk result (IsCounted history.old → IsCounted history.new) }
     ensures refused { IfErr result (λ why. why ≡ RestoreErr.NotLegal → BeginsNone (history.old.entries ++ one_of edit in_force ∷ [])) }
+    ensures err { OnErr result (history.new ≡ history.old) }
 {
     if in_force {
         match history.edit(edit, mover) {

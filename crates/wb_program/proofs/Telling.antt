@@ -1,7 +1,7 @@
 -- Which reason is told by what a command line asks for, and that a desk ends with another status than a refusal.
 use Rattle.std.proofs.Common.{◌≡◌, inl, inr, ℕ, Bool, List, Option, ◌∙◌, ap, subst, sym}
 use Rattle.wb_command.specs.declared.Asked.{Asked}
-use Rattle.wb_command.specs.declared.Asked.TheVariants.{Run, Serve}
+use Rattle.wb_command.specs.declared.Asked.TheVariants.{Run, RunKept, Serve}
 use Rattle.wb_lines.specs.declared.sink.Sink as Sink
 use Rattle.wb_lines.specs.declared.source.Source as Source
 use Rattle.wb_history.specs.Past.{Past}
@@ -15,6 +15,11 @@ use Rattle.wb_program.specs.declared.accepting.Accepts as Accepts
 pub run_tells : (asked : Asked) (workers : ℕ) (resume b : Bool) (old left : Option (List ℕ)) (told : Option Reason) → asked ≡ Run resume workers
     → resume ≡ b → TellsWhy (Run b workers) old left told → TellsWhy asked old left told
 run_tells asked workers resume b old left told is e h = subst (λ a. TellsWhy a old left told) (sym (is ∙ ap (λ b. Run b workers) e)) h
+
+pub kept_tells : (asked : Asked) (path : List ℕ) (workers : ℕ) (resume b : Bool) (old left : Option (List ℕ)) (told : Option Reason)
+    → asked ≡ RunKept path resume workers → resume ≡ b → TellsWhy (RunKept path b workers) old left told → TellsWhy asked old left told
+kept_tells asked path workers resume b old left told is e h =
+    subst (λ a. TellsWhy a old left told) (sym (is ∙ ap (λ b. RunKept path b workers) e)) h
 
 pub serve_tells : (asked : Asked) (port seats workers : ℕ) (resume b : Bool) (old left : Option (List ℕ)) (told : Option Reason)
     → asked ≡ Serve port seats resume workers → resume ≡ b → TellsWhy (Serve port seats b workers) old left told → TellsWhy asked old left told

@@ -9,7 +9,7 @@ use Rattle.wb_program.specs.Files.{UsesFiles}
 use Rattle.wb_sessions.specs.Keeping.{DoesNothing, ReadsNothing, RunsKept, Streams, UsesFile, its_writer}
 use Rattle.wb_history.specs.Past.{Past}
 use Rattle.wb_sessions.specs.Beginning.{BeginsAt, RunsBegun}
-use Rattle.wb_sessions.specs.Compacting.{Compacts}
+use Rattle.wb_sessions.specs.Compacting.{Compacts, CompactsAt}
 use Rattle.wb_sessions.specs.declared.files.OpensFiles as OpensFiles
 use Rattle.wb_sessions.specs.declared.keeping.KeptRun.{KeptRun}
 use Rattle.wb_sessions.proofs.Begun.{reads_behind}
@@ -53,6 +53,12 @@ module _ {D : Type 0} (device : Device.Ghosts D) where
     read_and_wrote path status after s (inl h) = each h.file h.held h.run s h.uses
     read_and_wrote path status after s (inr h) = did_nothing s h.nothing
 
+  -- a file that was found, or none
+  pub renewed : {J H : Type 0} (files : OpensFiles.Ghosts J D H) (path : List ℕ) (status : ℕ) (after : J) (s : Streams)
+      → CompactsAt device files path status after s → ReadsAndWrites s
+  renewed files path status after s (inl h) = read_and_wrote files (Compacts device) made_anew path status after s h.1
+  renewed files path status after s (inr h) = did_nothing s h.nothing
+
   -- the text of a history, and what came behind it
   pub began : {J H : Type 0} (files : OpensFiles.Ghosts J D H) (path : List ℕ) (status : ℕ) (before after : J) (s : Streams)
       → BeginsAt device files path status before after s → ReadsAndWrites s
@@ -95,7 +101,7 @@ module _ {D : Type 0} (device : Device.Ghosts D) where
         (subst (λ p. BeginsAt device files p status before after s) same h)
 
     pub keeps_anew : (asked : Asked) (path word : List ℕ) (status : ℕ) (before after : J) (s : Streams) → asked ≡ Compact path → word ≡ path
-        → ReadsNothing s → UsesFile device files (Compacts device) word status after (its_writer s) → UsesFiles device files asked status before after s
+        → ReadsNothing s → CompactsAt device files word status after (its_writer s) → UsesFiles device files asked status before after s
     keeps_anew asked path word status before after s is same nothing h =
         subst (λ a. UsesFiles device files a status before after s) (sym is)
-        (nothing, subst (λ p. UsesFile device files (Compacts device) p status after (its_writer s)) same h)
+        (nothing, subst (λ p. CompactsAt device files p status after (its_writer s)) same h)

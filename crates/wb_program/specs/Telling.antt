@@ -10,5 +10,6 @@ abbrev pub TellsWhy : Asked → (old left : Option (List ℕ)) → Option Reason
 TellsWhy ask.Check old left told = Tells WhyNothing old left told
 TellsWhy ask.Upgrade old left told = Tells WhyNoBook old left told
 TellsWhy (ask.Run true workers) old left told = Tells WhyNoOpening old left told
+TellsWhy (ask.RunKept path true workers) old left told = Tells WhyNoOpening old left told
 TellsWhy (ask.Serve port seats true workers) old left told = Tells WhyNoHistory old left told
 TellsWhy asked old left told = Unit {0}

@@ -50,7 +50,7 @@ pub(crate) fn cost_of_last<L: Opening>(pass: &Pass<L>) -> u64
     ensures { result ≡ min cost_limit (last_cost pass.now.own) }
 {
     match pass.own().last() {
-        Some(record) => cost_of(&record.entry().as_entry().reply),
+        Some(entry) => cost_of(entry.reply()),
         None => 0,
     }
 }

@@ -1,15 +1,15 @@
 //! What the program does by what its command line asks for.
-ghost use Rattle.std.specs.Prelude.{◌≡◌, ◌⊎◌, ◌++◌, ℕ, List, true, false, IfOk, IfErr, take};
+ghost use Rattle.std.specs.Prelude.{◌≡◌, ◌≢◌, ◌⊎◌, ◌++◌, ℕ, List, true, false, IfOk, IfErr, take};
 ghost use Rattle.std.specs.Io.KnownBytes.{Appends, Consumes, IsAtEnd};
 ghost use Rattle.wb_desk.specs.Openings.{nothing_done};
 ghost use Rattle.wb_sessions.specs.Checking.{IsFault};
-ghost use Rattle.wb_sessions.specs.Reasons.{Tells, WhyNoHistory};
+ghost use Rattle.wb_sessions.specs.Reasons.{Tells, WhyNoHistory, WhyNoOpening};
 ghost use Rattle.wb_program.specs.Telling.{TellsWhy};
 ghost use Rattle.wb_sessions.specs.Resuming.{left_in, failed_in, reads_in};
 ghost use Rattle.wb_sessions.specs.Running.{HasFailed};
 ghost use Rattle.wb_keeping.specs.Opening.{IsOpening};
 ghost use Rattle.wb_sessions.specs.Beginning.{BeginsAt, RunsBegun};
-ghost use Rattle.wb_sessions.specs.Compacting.{Compacts};
+ghost use Rattle.wb_sessions.specs.Compacting.{CompactsAt};
 ghost use Rattle.wb_program.specs.Files.{UsesFiles};
 ghost use Rattle.wb_sessions.specs.Keeping.{FinishesKept, RunsKept, UsesFile, streams, writer_alone};
 ghost use Rattle.wb_program.specs.KeptDays.{KeepsDay};
@@ -197,6 +197,7 @@ fn run_begun<D: Replaces, J: OpensFiles<D>, R: Source, W: Sink, M: Mover>(
     ensures keeps { UsesFile D.Device J.OpensFiles (RunsBegun D.Device opening.history) path.now result files.new
         (streams R.Source W.Sink reader.old reader.new writer.old writer.new) }
     ensures done { FinishesKept result (streams R.Source W.Sink reader.old reader.new writer.old writer.new) }
+    ensures no_refusal { result ≢ 1 }
 {
     match files.open(path) {
         Ok((file, held)) => {
@@ -221,6 +222,7 @@ fn run_resumed<D: Replaces, J: OpensFiles<D>, R: Source, W: Sink, M: Mover>(
     reader: &mut PutBack<R>,
     writer: &mut W,
     mover: &M,
+    why: &mut Option<Reason>,
 ) -> u8
     ensures keeps { BeginsAt D.Device J.OpensFiles path.now result files.old files.new (record {
       unread = left_in R.remaining reader.old;
@@ -234,8 +236,9 @@ fn run_resumed<D: Replaces, J: OpensFiles<D>, R: Source, W: Sink, M: Mover>(
       write_failed = W.failed writer.new;
     }) }
     ensures done { result ≡ 0 → IsAtEnd (left_in R.remaining reader.new) × (W.flushed writer.new ≡ true) }
+    ensures why { result ≡ 1 → Tells WhyNoOpening (left_in R.remaining reader.old) (left_in R.remaining reader.new) why.new }
 {
-    match opening_from(alloc, reader, writer, mover) {
+    match opening_from(alloc, reader, writer, mover, why) {
         Ok(opening) => run_begun::<D, J, PutBack<R>, W, M>(
             alloc, files, path, opening, reader, writer, mover,
         ),
@@ -243,7 +246,7 @@ fn run_resumed<D: Replaces, J: OpensFiles<D>, R: Source, W: Sink, M: Mover>(
     }
 }
 
-// The journal at a path, made anew.
+// The journal that is found at a path, made anew.
 fn compact_at<D: Replaces, J: OpensFiles<D>, W: Sink, M: Mover>(
     alloc: Global,
     files: &mut J,
@@ -251,9 +254,9 @@ fn compact_at<D: Replaces, J: OpensFiles<D>, W: Sink, M: Mover>(
     writer: &mut W,
     mover: &M,
 ) -> u8
-    ensures keeps { UsesFile D.Device J.OpensFiles (Compacts D.Device) path.now result files.new (writer_alone W.Sink writer.old writer.new) }
+    ensures keeps { CompactsAt D.Device J.OpensFiles path.now result files.new (writer_alone W.Sink writer.old writer.new) }
 {
-    match files.open(path) {
+    match files.open_found(path) {
         Ok((file, held)) => {
             let KeptRun {
                 status,
@@ -272,7 +275,7 @@ fn compact_at<D: Replaces, J: OpensFiles<D>, W: Sink, M: Mover>(
 /// comes only with the writer flushed, and, where an input is read, at its end; 3 only where a read, a write, a flush, a port, a
 /// connection or a thread failed, or what the definition of each command names besides. A desk listens on a port that `ports` gives. A
 /// journal is in the file that `files` gives for its path, also one that begins with a history, and one that is made anew, which
-/// reads and prints nothing at status 0; no other command opens a file. With status 1 it tells why the input is refused.
+/// reads and prints nothing at status 0, and makes no file where none is found; no other command opens a file. With status 1 it tells why the input is refused.
 pub fn do_asked<
     R: Threads + Wait + Sync,
     B: Binds<N, I, O>,
@@ -346,7 +349,15 @@ pub fn do_asked<
             ..
         } => {
             if resume {
-                run_resumed::<D, J, S, W, M>(alloc, files, journal.as_str(), reader, writer, mover)
+                run_resumed::<D, J, S, W, M>(
+                    alloc,
+                    files,
+                    journal.as_str(),
+                    reader,
+                    writer,
+                    mover,
+                    why,
+                )
             } else {
                 run_kept::<D, J, PutBack<S>, W, M>(
                     alloc,

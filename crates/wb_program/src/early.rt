@@ -223,11 +223,11 @@ fn answer_at<R: Wait>(rt: &R, company: &Company, seat: usize, word: Word) -> Res
 
 // Notes what the line did whose entry is the last of a pass.
 fn note_last<L: Opening, R: Wait>(rt: &R, company: &Company, pass: &Pass<L>) {
-    let Some(record) = pass.own().last() else {
+    let Some(last) = pass.own().last() else {
         return;
     };
     let (seat, entries) = (pass.seat(), pass.own().len() as u64);
-    match &record.entry().as_entry().reply {
+    match last.reply() {
         Reply::Edited(number, _) => company.note(rt, seat, entries, Deed::Edited, &[*number]),
         Reply::Undone(number, _) => company.note(rt, seat, entries, Deed::Undone, &[*number]),
         Reply::Redone(number, _) => company.note(rt, seat, entries, Deed::Redone, &[*number]),

@@ -13,7 +13,7 @@ use wb_keep::START;
 use wb_keep::disk::MemoryFile;
 use wb_lines::{Input, Output};
 use wb_program::{Ports, do_asked};
-use wb_sessions::{FileFault, PutBack, compact_with, run_kept_with};
+use wb_sessions::{FileFault, PutBack, Reason, compact_with, run_kept_with};
 
 // More calls than are made here.
 const NEVER: usize = 1000;
@@ -166,37 +166,44 @@ fn strange_lines_are_refused(rt: HostRuntime) -> Result<(), Fail> {
 struct Done {
     status: u8,
     fault: Option<FileFault>,
+    why: Option<Reason>,
     written: Vec<u8>,
     left: Option<Vec<u8>>,
 }
 
-// A session with a journal that begins with the text of a history, or a journal made anew.
+// A session with a journal that begins with the text of a history.
+fn begun() -> Asked<'static> {
+    Asked::RunKept {
+        journal: FilePath::new("plan.wb"),
+        resume: true,
+        workers: 1,
+    }
+}
+
+// The journal at a path, made anew.
+fn anew(path: &'static str) -> Asked<'static> {
+    Asked::Compact {
+        journal: FilePath::new(path),
+    }
+}
+
+// What is asked for, done with one file at `plan.wb`.
 fn done_with<
     R: Net<Listener = TcpListener, Stream = TcpStream> + Threads + Wait + Sync,
     M: Mover + Sync,
 >(
     rt: &R,
     alloc: Global,
-    resumes: bool,
+    asked: Asked<'static>,
     held: &'static [u8],
     calls: usize,
     input: &[u8],
     mover: &M,
 ) -> Result<Done, AllocError> {
-    let asked = if resumes {
-        Asked::RunKept {
-            journal: FilePath::new("plan.wb"),
-            resume: true,
-            workers: 1,
-        }
-    } else {
-        Asked::Compact {
-            journal: FilePath::new("plan.wb"),
-        }
-    };
     let mut ports = Ports::of(rt);
     let mut files = OneFile::of(alloc, held, calls);
     let mut written = Vec::new(alloc);
+    let mut why = None;
     let status = do_asked(
         rt,
         alloc,
@@ -206,7 +213,7 @@ fn done_with<
         &mut PutBack::new(alloc, Input::new(input)),
         &mut Output::new(&mut written),
         mover,
-        &mut None,
+        &mut why,
     );
     let left = match &files.file {
         Some(file) => Some(file.left().to_vec(alloc)?),
@@ -215,6 +222,7 @@ fn done_with<
     Ok(Done {
         status,
         fault: files.told,
+        why,
         written,
         left,
     })
@@ -235,10 +243,10 @@ fn a_file_begins_with_a_history(rt: HostRuntime) -> Result<(), Fail> {
     wanted.extend_from_slice(BEHIND)?;
     // A crash may have left a front of the header.
     for held in [START.as_slice(), b"", b"chapel-work"] {
-        let begun = done_with(&rt, rt.alloc(), true, held, NEVER, INPUT, &alone)?;
-        assert!(rt; begun.status == 0 && begun.fault.is_none());
-        assert_eq!(rt; begun.written.as_slice(), REPLIES);
-        assert!(rt; has_left(&begun, &wanted));
+        let run = done_with(&rt, rt.alloc(), begun(), held, NEVER, INPUT, &alone)?;
+        assert!(rt; run.status == 0 && run.fault.is_none());
+        assert_eq!(rt; run.written.as_slice(), REPLIES);
+        assert!(rt; has_left(&run, &wanted));
     }
     Ok(())
 }
@@ -248,11 +256,11 @@ fn a_history_is_kept_before_anything_is_answered(rt: HostRuntime) -> Result<(), 
     let alone = Crew::alone(&rt);
     // To open the file takes three calls, and to add its first line two.
     for calls in 0..5 {
-        let cut = done_with(&rt, rt.alloc(), true, &START, calls, INPUT, &alone)?;
+        let cut = done_with(&rt, rt.alloc(), begun(), &START, calls, INPUT, &alone)?;
         assert!(rt; cut.status == 3 && cut.fault == Some(FileFault::Failed));
         assert!(rt; cut.written.is_empty());
     }
-    let cut = done_with(&rt, rt.alloc(), true, &START, 5, INPUT, &alone)?;
+    let cut = done_with(&rt, rt.alloc(), begun(), &START, 5, INPUT, &alone)?;
     assert!(rt; cut.status == 3 && cut.written.is_empty());
     assert!(rt; has_left(&cut, ANEW));
     Ok(())
@@ -262,18 +270,22 @@ fn a_history_is_kept_before_anything_is_answered(rt: HostRuntime) -> Result<(), 
 fn a_file_with_a_line_is_not_begun(rt: HostRuntime) -> Result<(), Fail> {
     let alone = Crew::alone(&rt);
     for held in [HELD, ANEW] {
-        let refused = done_with(&rt, rt.alloc(), true, held, 0, INPUT, &alone)?;
+        let refused = done_with(&rt, rt.alloc(), begun(), held, 0, INPUT, &alone)?;
         assert!(rt; refused.status == 3 && refused.fault == Some(FileFault::HasLines));
         assert!(rt; refused.written.is_empty());
         assert!(rt; has_left(&refused, held));
     }
-    let foreign = done_with(&rt, rt.alloc(), true, b"hello\n", 0, INPUT, &alone)?;
+    let foreign = done_with(&rt, rt.alloc(), begun(), b"hello\n", 0, INPUT, &alone)?;
     assert!(rt; foreign.status == 3 && foreign.fault == Some(FileFault::NotOurs));
     assert!(rt; foreign.written.is_empty());
     // Without a history no file is opened.
-    for input in [NO_HISTORY, b"", b"{\"op\":\"edits\"}\n"] {
-        let none = done_with(&rt, rt.alloc(), true, &START, 0, input, &alone)?;
-        assert!(rt; none.status == 1 && none.left.is_none());
+    for (input, reason) in [
+        (NO_HISTORY, Reason::OtherHeading),
+        (b"".as_slice(), Reason::NotOurs),
+        (b"{\"op\":\"edits\"}\n".as_slice(), Reason::NotOurs),
+    ] {
+        let none = done_with(&rt, rt.alloc(), begun(), &START, 0, input, &alone)?;
+        assert!(rt; none.status == 1 && none.left.is_none() && none.why == Some(reason));
         assert_eq!(rt; none.written.as_slice(), REFUSED);
     }
     Ok(())
@@ -282,8 +294,17 @@ fn a_file_with_a_line_is_not_begun(rt: HostRuntime) -> Result<(), Fail> {
 #[test]
 fn a_command_line_makes_a_journal_anew(rt: HostRuntime) -> Result<(), Fail> {
     let alone = Crew::alone(&rt);
-    let anew = done_with(&rt, rt.alloc(), false, HELD, NEVER, b"", &alone)?;
-    assert!(rt; anew.status == 0 && anew.fault.is_none() && anew.written.is_empty());
-    assert!(rt; has_left(&anew, ANEW));
+    let made = done_with(&rt, rt.alloc(), anew("plan.wb"), HELD, NEVER, b"", &alone)?;
+    assert!(rt; made.status == 0 && made.fault.is_none() && made.written.is_empty());
+    assert!(rt; has_left(&made, ANEW));
+    Ok(())
+}
+
+#[test]
+fn a_journal_that_is_not_there_is_not_made_anew(rt: HostRuntime) -> Result<(), Fail> {
+    let alone = Crew::alone(&rt);
+    let none = done_with(&rt, rt.alloc(), anew("plam.wb"), HELD, NEVER, b"", &alone)?;
+    assert!(rt; none.status == 3 && none.fault == Some(FileFault::Missing));
+    assert!(rt; none.written.is_empty() && none.left.is_none());
     Ok(())
 }

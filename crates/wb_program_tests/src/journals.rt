@@ -1,5 +1,6 @@
 //! Sessions with a journal in a file in memory: kept, gone on with, cut off in each call, and files that are refused.
-ghost use Rattle.std.specs.Prelude.{◌≡◌, Some};
+ghost use Rattle.std.specs.Prelude.{◌≡◌, ◌≢◌, Some, IfErr, IfOk};
+ghost use Rattle.wb_keep.specs.Disk.Calls.{IsHeld};
 
 use std::alloc::{AllocError, Global};
 use std::io::{self, Read};
@@ -11,7 +12,7 @@ use wb_keep::START;
 use wb_keep::disk::MemoryFile;
 use wb_lines::{Input, Output};
 use wb_program::{Ports, do_asked};
-use wb_sessions::{FileFault, OpensFiles, PutBack, check_with, run_kept_with};
+use wb_sessions::{FileFault, OpensFiles, PutBack, Reason, check_with, run_kept_with};
 
 // More calls than a session makes here.
 const NEVER: usize = 1000;
@@ -227,19 +228,36 @@ fn files_are_refused_untouched(rt: HostRuntime) -> Result<(), Fail> {
     Ok(())
 }
 
-// What `check` prints of a text, and its exit status.
-fn judged<M: Mover>(alloc: Global, text: &[u8], mover: &M) -> (u8, Vec<u8>) {
+// The exit status of `check` of a text, what it prints, and why it refuses the text.
+fn judged<M: Mover>(alloc: Global, text: &[u8], mover: &M) -> (u8, Vec<u8>, Option<Reason>) {
     let mut output = Vec::new(alloc);
+    let mut why = None;
     let mut input = Input::new(text);
     let status = check_with(
         alloc,
         &mut input,
         &mut Output::new(&mut output),
         mover,
-        &mut None,
+        &mut why,
     );
-    (status, output)
+    (status, output, why)
 }
+
+// Journals with a line that is not granted behind so many that are, and one that is cut off behind it.
+const NOT_GRANTED_LATER: [(&[u8], usize); 3] = [
+    (
+        b"chapel-workbook 3\n {\"d\":\"D\",\"is\":\"{1..4}\",\"map\":\"none\",\"op\":\"domain\"}\n up\n#",
+        1,
+    ),
+    (
+        b"chapel-workbook 3\n+{\"d\":\"D\",\"is\":\"{1..4}\",\"map\":\"none\",\"op\":\"domain\"}\n+{\"a\":\"A\",\"d\":\"D\",\"op\":\"array\"}\n {\"k\":3,\"op\":\"undo\"}\n up\n#",
+        2,
+    ),
+    (
+        b"chapel-workbook 3\n {\"d\":\"D\",\"is\":\"{1..4}\",\"map\":\"none\",\"op\":\"domain\"}\n {\"k\":1,\"op\":\"redo\"}\n half a li",
+        1,
+    ),
+];
 
 #[test]
 fn journals_are_judged(rt: HostRuntime) -> Result<(), Fail> {
@@ -252,18 +270,23 @@ fn journals_are_judged(rt: HostRuntime) -> Result<(), Fail> {
         (START.as_slice(), b"ok 0 0\n".as_slice()),
         (torn.as_slice(), b"ok 2 2\n".as_slice()),
     ] {
-        let (status, output) = judged(alloc, text, &alone);
-        assert!(rt; status == 0);
+        let (status, output, why) = judged(alloc, text, &alone);
+        assert!(rt; status == 0 && why.is_none());
         assert_eq!(rt; output.as_slice(), printed);
     }
     for text in &NOT_GRANTED {
-        let (status, output) = judged(alloc, text, &alone);
-        assert!(rt; status == 1);
+        let (status, output, why) = judged(alloc, text, &alone);
+        assert!(rt; status == 1 && why == Some(Reason::NotGranted(0)));
+        assert_eq!(rt; output.as_slice(), REFUSED);
+    }
+    for (text, place) in &NOT_GRANTED_LATER {
+        let (status, output, why) = judged(alloc, text, &alone);
+        assert!(rt; status == 1 && why == Some(Reason::NotGranted(*place)));
         assert_eq!(rt; output.as_slice(), REFUSED);
     }
     // It is opened as a journal that was begun, and is none as it stands.
-    let (status, output) = judged(alloc, BEGUN, &alone);
-    assert!(rt; status == 1);
+    let (status, output, why) = judged(alloc, BEGUN, &alone);
+    assert!(rt; status == 1 && why == Some(Reason::CutShort));
     assert_eq!(rt; output.as_slice(), REFUSED);
     Ok(())
 }
@@ -275,6 +298,7 @@ pub struct OneFile {
     held: &'static [u8],
     calls: usize,
     host: (),
+    missing: bool,
     /// What was told of it last.
     pub told: Option<FileFault>,
     /// What was given back.
@@ -289,9 +313,28 @@ impl OneFile {
             held,
             calls,
             host: (),
+            missing: false,
             told: None,
             file: None,
         }
+    }
+
+    // The file, and what it holds.
+    fn came(&mut self) -> Result<(MemoryFile, Vec<u8>), FileFault>
+        ensures held { IfOk result (λ opened. IsHeld opened.1.items opened.0.calls) }
+        ensures other { IfErr result (λ fault. fault ≢ FileFault.Missing) }
+        ensures told { IfErr result (λ fault. self.new.told ≡ Some fault) }
+        ensures missing { self.new.missing ≡ self.old.missing }
+    {
+        let Ok(held) = self.held.to_vec(self.alloc) else {
+            self.told = Some(FileFault::NoMemory);
+            return Err(FileFault::NoMemory);
+        };
+        let Ok(bytes) = self.held.to_vec(self.alloc) else {
+            self.told = Some(FileFault::NoMemory);
+            return Err(FileFault::NoMemory);
+        };
+        Ok((MemoryFile::new(self.alloc, bytes, self.calls, 0), held))
     }
 }
 
@@ -305,20 +348,23 @@ impl OpensFiles<MemoryFile> for OneFile {
 
     ghost told = { λ s. s.told };
 
+    ghost missing = { λ s. s.missing };
+
     fn open(&mut self, path: &str) -> Result<(MemoryFile, Vec<u8>), FileFault> {
         if path != "plan.wb" {
             self.told = Some(FileFault::NotOpened);
             return Err(FileFault::NotOpened);
         }
-        let Ok(held) = self.held.to_vec(self.alloc) else {
-            self.told = Some(FileFault::NoMemory);
-            return Err(FileFault::NoMemory);
-        };
-        let Ok(bytes) = self.held.to_vec(self.alloc) else {
-            self.told = Some(FileFault::NoMemory);
-            return Err(FileFault::NoMemory);
-        };
-        Ok((MemoryFile::new(self.alloc, bytes, self.calls, 0), held))
+        self.came()
+    }
+
+    fn open_found(&mut self, path: &str) -> Result<(MemoryFile, Vec<u8>), FileFault> {
+        self.missing = path != "plan.wb";
+        if self.missing {
+            self.told = Some(FileFault::Missing);
+            return Err(FileFault::Missing);
+        }
+        self.came()
     }
 
     fn host(&self) -> &() {

@@ -8,7 +8,7 @@ use std::test::Fail;
 use wb_arrays::{Crew, Mover};
 use wb_lines::{Input, Output};
 use wb_program::{Connections, serve_history};
-use wb_sessions::{PutBack, check_with, history_from, resume_with, run_with};
+use wb_sessions::{PutBack, Reason, check_with, history_from, resume_with, run_with};
 
 const LINES: &[u8] =
     b"{\"op\":\"domain\",\"d\":\"D\",\"is\":\"{1..4}\"}\n{\"op\":\"array\",\"a\":\"A\",\"d\":\"D\"}\n{\"op\":\"set\",\"a\":\"A\",\"i\":4,\"v\":9}\n{\"op\":\"undo\"}\n{\"op\":\"history\"}\n";
@@ -125,6 +125,57 @@ const DAMAGED: [(&str, &str); 60] = [
     ),
 ];
 
+// Parts of that text, what stands in their place, and what is told of it: the first line, from 0, with which no history goes on, or that
+// the lines above the edits are not theirs.
+const PLACES: [(&str, &str, Reason); 22] = [
+    ("array A over D [0, 0, 0, 0]\n", "", Reason::OtherHeading),
+    ("0]", "9]", Reason::OtherHeading),
+    ("{1..4} none", "{1..5} none", Reason::OtherHeading),
+    ("history 3", "history 2", Reason::OtherHeading),
+    ("history 3", "history  3", Reason::OtherHeading),
+    ("- ", "+ ", Reason::OtherHeading),
+    (
+        "chapel-workbook 2",
+        "chapel-workbook 7",
+        Reason::OtherHeading,
+    ),
+    (
+        "- {\"a\":\"A\",\"i\":4,\"op\":\"set\",\"v\":9}\n",
+        "",
+        Reason::OtherHeading,
+    ),
+    ("history 3", "history", Reason::Altered),
+    ("history 3\n", "", Reason::Altered),
+    ("+ {\"d\"", "- {\"d\"", Reason::LineNotGranted(5)),
+    (",\"map\":\"none\"", "", Reason::LineNotGranted(4)),
+    ("\"{1..4}\"", "\"{ 1..4}\"", Reason::LineNotGranted(4)),
+    (
+        "\"d\":\"D\",\"op\"",
+        "\"d\":\"E\",\"op\"",
+        Reason::LineNotGranted(5),
+    ),
+    (
+        "\"op\":\"array\"",
+        "\"op\":\"\\u0061rray\"",
+        Reason::LineNotGranted(5),
+    ),
+    ("}\n- {", "}\n\n- {", Reason::LineNotGranted(6)),
+    ("- ", "* ", Reason::LineNotGranted(6)),
+    ("- ", "", Reason::LineNotGranted(6)),
+    ("\"v\":9", "\"v\": 9", Reason::LineNotGranted(6)),
+    ("\"v\":9", "\"v\":9.5", Reason::LineNotGranted(6)),
+    (
+        "- {\"a\":\"A\",\"i\":4,\"op\":\"set\",\"v\":9}",
+        "+ {\"a\":\"A\",\"i\":5,\"op\":\"set\",\"v\":9}",
+        Reason::LineNotGranted(6),
+    ),
+    (
+        "{\"a\":\"A\",\"i\":4,\"op\":\"set\",\"v\":9}",
+        "{\"op\":\"undo\"}",
+        Reason::LineNotGranted(6),
+    ),
+];
+
 // The text with one thing in the place of another.
 fn damaged(alloc: Global, old: &str, new: &str) -> Result<String, Fail> {
     let (before, behind) = TEXT.split_once(old).ok_or("it stands in the text")?;
@@ -184,6 +235,58 @@ fn history_text(rt: HostRuntime) -> Result<(), Fail> {
         b"ok 0 0\n",
         &alone,
     )
+}
+
+// What is told of a text that is refused, by `check`, by a session and by a desk that are to go on from it.
+fn told<M: Mover>(
+    rt: &impl Abort,
+    alloc: Global,
+    text: &[u8],
+    reason: Reason,
+    mover: &M,
+) -> Result<(), Fail> {
+    let mut output = Vec::new(alloc);
+    let mut why = None;
+    let status = check_with(
+        alloc,
+        &mut Input::new(text),
+        &mut Output::new(&mut output),
+        mover,
+        &mut why,
+    );
+    assert!(rt; status == 1 && why == Some(reason));
+    let mut why = None;
+    let status = resume_with(
+        alloc,
+        &mut PutBack::new(alloc, Input::new(text)),
+        &mut Output::new(&mut output),
+        mover,
+        &mut why,
+    );
+    assert!(rt; status == 1 && why == Some(reason));
+    let mut why = None;
+    let opened = history_from(
+        alloc,
+        &mut Input::new(text),
+        &mut Output::new(&mut output),
+        mover,
+        &mut why,
+    );
+    assert!(rt; matches!(opened, Err(1)) && why == Some(reason));
+    Ok(())
+}
+
+#[test]
+fn places_are_told(rt: HostRuntime) -> Result<(), Fail> {
+    let alloc = rt.alloc();
+    let alone = Crew::alone(&rt);
+    for (part, other, reason) in &PLACES {
+        let text = damaged(alloc, part, other)?;
+        told(&rt, alloc, text.as_bytes(), *reason, &alone)?;
+    }
+    // An empty line stands where an edit's may.
+    let text = b"chapel-workbook 2\nhistory 0\n\nend\n";
+    told(&rt, alloc, text, Reason::LineNotGranted(2), &alone)
 }
 
 // A session from the text in front of the lines, read in two pieces: the exit status, and what it wrote.

@@ -3,3 +3,5 @@ pub mod Columnwise
 pub mod Linewise
 pub mod Agreeing
 pub mod Fitting
+pub mod Placewise
+pub mod Finding

@@ -1,5 +1,5 @@
 //! What the lines of a workbook's objects say, read from the book.
-ghost use Rattle.std.specs.Prelude.{◌≡◌, [], IfOk, unwrap_or};
+ghost use Rattle.std.specs.Prelude.{◌≡◌, [], IfOk, option_and_then, slice_get, unwrap_or};
 ghost use Rattle.std.specs.FinMap as map;
 ghost use Rattle.std.specs.List.{filter_map};
 ghost use Rattle.wb_cells.specs.Locales.{mapping_in};
@@ -46,19 +46,6 @@ pub(crate) fn members(alloc: Global, book: &Book, domain: &Name) -> Result<Vec<A
     Ok(members_in(alloc, &shown)?)
 }
 
-// The indices of a rectangle, row by row.
-fn points_of(alloc: Global, ranges: &AnyRect) -> Result<Vec<AnyIndex>, AllocError>
-    ensures { IfOk result (λ v. v.items ≡ indices ranges.now) }
-{
-    let mut points = Vec::new(alloc);
-    for p in 0..ranges.size() {
-        if let Some(index) = ranges.nth(p) {
-            points.push(index)?;
-        }
-    }
-    Ok(points)
-}
-
 /// The ranges of a rectangular domain.
 pub(crate) fn ranges_at(book: &Book, domain: &Name) -> Option<AnyRect>
     ensures { result ≡ ranges_in (map.get book.now.cells (Shape domain.now)) }
@@ -89,32 +76,6 @@ pub(crate) fn mapping_at(book: &Book, domain: &Name) -> Option<AnyLayout>
     }
 }
 
-// The indices of a rectangular domain, row by row.
-fn points(alloc: Global, book: &Book, domain: &Name) -> Result<Vec<AnyIndex>, NoMemory>
-    ensures { IfOk result (λ v. v.items ≡ unwrap_or (indices_at book.now.cells domain.now) []) }
-{
-    match ranges_at(book, domain) {
-        None => Ok(Vec::new(alloc)),
-        Some(ranges) => Ok(points_of(alloc, &ranges)?),
-    }
-}
-
-/// The indices of a domain of the kind, in its order.
-pub(crate) fn indices_in(
-    alloc: Global,
-    book: &Book,
-    domain: &Name,
-    kind: Kind,
-) -> Result<Vec<AnyIndex>, NoMemory>
-    ensures { IfOk result (λ v. v.items ≡ indices_in book.now.cells domain.now kind) }
-{
-    match kind {
-        Kind::Rectangular(_) => points(alloc, book, domain),
-        Kind::Sparse(_) => members(alloc, book, domain),
-        Kind::Associative(_) => members(alloc, book, domain),
-    }
-}
-
 fn number_in(value: Option<Value>) -> Option<i64>
     ensures { result ≡ number_in value }
 {
@@ -136,8 +97,8 @@ fn element_at(book: &Book, array: &Name, index: &AnyIndex) -> Option<i64>
     number_in(book.get(&Cell::Element(*array, *index)))
 }
 
-/// The elements of an array at the indices, in their order.
-pub(crate) fn elements_at(
+// The elements of an array at the indices, in their order.
+fn elements_at(
     alloc: Global,
     book: &Book,
     array: &Name,
@@ -152,6 +113,77 @@ pub(crate) fn elements_at(
         }
     }
     Ok(elements)
+}
+
+// The element of an array at the index at a place of a rectangle.
+fn element_nth(book: &Book, array: &Name, ranges: &AnyRect, p: usize) -> Option<i64>
+    ensures { result ≡ option_and_then (element_at book.now.cells array.now) (slice_get (indices ranges.now) p) }
+{
+    let index = ranges.nth(p)?;
+    element_at(book, array, &index)
+}
+
+// The elements of an array at the indices of a rectangle, in their order. No index is listed.
+fn elements_over(
+    alloc: Global,
+    book: &Book,
+    array: &Name,
+    ranges: &AnyRect,
+) -> Result<Vec<i64>, NoMemory>
+    ensures { IfOk result (λ v. v.items ≡ elements_at book.now.cells array.now (indices ranges.now)) }
+{
+    let mut elements = Vec::new(alloc);
+    for p in 0..ranges.size() {
+        if let Some(element) = element_nth(book, array, ranges, p) {
+            elements.push(element)?;
+        }
+    }
+    Ok(elements)
+}
+
+// The elements of an array over a rectangular domain, in the order of the domain's indices.
+fn elements_over_domain(
+    alloc: Global,
+    book: &Book,
+    array: &Name,
+    domain: &Name,
+) -> Result<Vec<i64>, NoMemory>
+    ensures { IfOk result (λ v. v.items ≡ elements_at book.now.cells array.now (unwrap_or (indices_at book.now.cells domain.now) [])) }
+{
+    match ranges_at(book, domain) {
+        None => Ok(Vec::new(alloc)),
+        Some(ranges) => elements_over(alloc, book, array, &ranges),
+    }
+}
+
+// The elements of an array over a sparse or associative domain, in the order of the domain's indices.
+fn elements_at_members(
+    alloc: Global,
+    book: &Book,
+    array: &Name,
+    domain: &Name,
+) -> Result<Vec<i64>, NoMemory>
+    ensures { IfOk result (λ v. v.items ≡ elements_at book.now.cells array.now (members book.now.cells domain.now)) }
+{
+    let indices = members(alloc, book, domain)?;
+    elements_at(alloc, book, array, &indices)
+}
+
+/// The elements of an array over a domain of the kind, in the order of the domain's indices.
+pub(crate) fn elements_of(
+    alloc: Global,
+    book: &Book,
+    array: &Name,
+    domain: &Name,
+    kind: Kind,
+) -> Result<Vec<i64>, NoMemory>
+    ensures { IfOk result (λ v. v.items ≡ elements_at book.now.cells array.now (indices_in book.now.cells domain.now kind)) }
+{
+    match kind {
+        Kind::Rectangular(_) => elements_over_domain(alloc, book, array, domain),
+        Kind::Sparse(_) => elements_at_members(alloc, book, array, domain),
+        Kind::Associative(_) => elements_at_members(alloc, book, array, domain),
+    }
 }
 
 /// The implicit value of an array over a domain of the kind, where it is written.

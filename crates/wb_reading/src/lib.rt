@@ -9,11 +9,11 @@ mod objects;
 mod printed;
 mod workbook;
 
-ghost use Rattle.std.specs.Prelude.{◌≡◌, ◌≢◌, true, false, Some, None, IfOk, IfErr, IfSome, IfNone, map, option_map};
-ghost use Rattle.wb_reading.specs.Reading.{IsNoBook};
+ghost use Rattle.std.specs.Prelude.{◌≡◌, ◌≢◌, true, false, Some, None, IfOk, IfErr, IfSome, IfNone, option_map, option_and_then};
+ghost use Rattle.wb_reading.specs.Reading.{IsNoBook, sound_cells};
 ghost use Rattle.wb_text.specs.Lines.{book_text};
-ghost use Rattle.wb_text.specs.Said.{line_of};
-ghost use Rattle.wb_text.specs.Texts.Books.{told_by, book_in, is_book_text};
+ghost use Rattle.wb_text.specs.Parsed.Lines.{book_of as parsed};
+ghost use Rattle.wb_text.specs.Texts.Books.{if_text_of, book_in, is_book_text};
 
 pub use crate::printed::print_book;
 pub use crate::workbook::rebuild;
@@ -21,7 +21,7 @@ use std::alloc::Global;
 use thiserror::Error;
 use wb_book::Book;
 use wb_range::NoMemory;
-use wb_text::{BookText, ObjectLine, read_lines};
+use wb_text::{BookText, read_lines};
 
 /// Why a text is not read.
 #[derive(Clone, Copy, Debug, PartialEq, Eq, Error)]
@@ -48,27 +48,35 @@ fn same_text(alloc: Global, book: Book, text: &str) -> Result<Option<Book>, NoMe
     }
 }
 
-// The workbook of these lines, if this is its text.
-fn book_of_lines(alloc: Global, lines: &[ObjectLine], text: &str) -> Result<Option<Book>, NoMemory>
-    ensures some { IfOk result (λ r. IfSome r (λ b. text.now ≡ book_text b.cells)) }
-    ensures told { IfOk result (λ r. option_map (λ b. b.cells) r ≡ told_by text.now (map line_of lines.now)) }
+// The workbook that the lines of this text tell of, if they are sound, whatever its own text is.
+fn told_book(alloc: Global, text: &str) -> Result<Option<Book>, NoMemory>
+    ensures { IfOk result (λ r. option_map (λ b. b.cells) r ≡ option_and_then sound_cells (parsed text.now)) }
 {
-    match rebuild(alloc, lines)? {
+    match read_lines(alloc, text) {
+        Ok(Some(lines)) => rebuild(alloc, &lines),
+        Ok(None) => Ok(None),
+        Err(_) => Err(NoMemory),
+    }
+}
+
+// A workbook that lines told of, if the text is its text.
+fn same_told(alloc: Global, told: Option<Book>, text: &str) -> Result<Option<Book>, NoMemory>
+    ensures some { IfOk result (λ r. IfSome r (λ b. text.now ≡ book_text b.cells)) }
+    ensures told { IfOk result (λ r. option_map (λ b. b.cells) r ≡ option_and_then (if_text_of text.now) (option_map (λ b. b.cells) told)) }
+{
+    match told {
         Some(book) => same_text(alloc, book, text),
         None => Ok(None),
     }
 }
 
-// The workbook of this text, if there is one.
+// The workbook of this text, if there is one. The lines are let go before its own text is printed.
 fn book_of(alloc: Global, text: &str) -> Result<Option<Book>, NoMemory>
     ensures some { IfOk result (λ r. IfSome r (λ b. text.now ≡ book_text b.cells)) }
     ensures told { IfOk result (λ r. option_map (λ b. b.cells) r ≡ book_in text.now) }
 {
-    match read_lines(alloc, text) {
-        Ok(Some(lines)) => book_of_lines(alloc, &lines, text),
-        Ok(None) => Ok(None),
-        Err(_) => Err(NoMemory),
-    }
+    let told = told_book(alloc, text)?;
+    same_told(alloc, told, text)
 }
 
 /// The workbook of this text, or `Bad` just where no well-formed workbook has it. No two workbooks share a text, so it is

@@ -4,7 +4,7 @@ ghost use Rattle.wb_cells.specs.declared.cells.kind.DomainKind.TheVariants.{Rect
 ghost use Rattle.wb_text.specs.Lines.{members, indices_in, elements_at, implicit_in, sparse_line, associative_line, array_line, domain_line, text_of_object};
 ghost use Rattle.wb_text.specs.Lines.{object_line};
 
-use crate::books::{elements_at, implicit_in, indices_in, mapping_at, members, ranges_at};
+use crate::books::{elements_of, implicit_in, mapping_at, members, ranges_at};
 use std::alloc::Global;
 use wb_book::Book;
 use wb_cells::{AnyLayout, Cell, DomainKind, KeyType, Kind, Name, Value};
@@ -89,8 +89,7 @@ fn push_array(
         (elements_at book.now.cells array.now (indices_in book.now.cells domain.now kind)) (implicit_in book.now.cells array.now kind)) }
 {
     let kept = &kind;
-    let indices = indices_in(alloc, book, domain, *kept)?;
-    let elements = elements_at(alloc, book, array, &indices)?;
+    let elements = elements_of(alloc, book, array, domain, *kept)?;
     let implicit = implicit_in(book, array, *kept);
     push_array_line(out, array, domain, &elements, implicit)?;
     Ok(())

@@ -5,5 +5,5 @@ pub mod Sent
 pub mod OpenedJournals
 pub mod Begun
 pub mod MadeAnew
-pub mod Judged
 pub mod Telling
+pub mod LinesLeft

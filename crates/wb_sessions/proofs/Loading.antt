@@ -1,7 +1,9 @@
 -- The load of a workbook's text is accepted where there is nothing yet, and makes that workbook.
-use Rattle.std.proofs.Common.{◌≡◌, ℕ, zero, suc, Bool, true, List, [], ◌∷◌, Some, is_some, Result, Ok, Err, IsOk, OnOk, slice_get, refl, sym, ap, subst, ◌∙◌}
+use Rattle.std.proofs.Common.{◌≡◌, ℕ, zero, suc, true, List, [], ◌∷◌, Some, is_some, Ok, IsOk, slice_get, refl, sym, ap, subst, ◌∙◌}
+use Rattle.std.proofs.lemmas.List.{append-nil}
 use Rattle.std.specs.FinMap.{empty, get-empty}
 use Rattle.std.specs.FinMap.Entries.{where_key}
+use Rattle.std.specs.List.{flat_map}
 use Rattle.selective_undo.specs.Edit.{Trace, outcome, seen, trace, write, written}
 use Rattle.selective_undo.specs.Changes.{apply}
 use Rattle.selective_undo.specs.History.{IsLegal, replay}
@@ -12,14 +14,12 @@ use Rattle.wb_edit.specs.Commands.{book_cells, load}
 use Rattle.wb_edit.specs.Trees.{judged}
 use Rattle.wb_edit.specs.Objects.{is_empty}
 use Rattle.wb_cells.specs.Schema.{workbook}
-use Rattle.wb_edit.specs.declared.edit.Edit.{Edit}
 use Rattle.wb_edit.specs.declared.edit.Edit.TheVariants.{Load}
 use Rattle.wb_edit.proofs.Loading.{becomes}
-use Rattle.wb_history.specs.Past.{Numbered, meant}
-use Rattle.wb_history.specs.Restored.{RestoreReply, marked}
-use Rattle.wb_history.specs.declared.restore.RestoreErr.{RestoreErr}
-use Rattle.wb_history.specs.declared.restore.RestoreErr.TheVariants.{NotLegal}
-use Rattle.wb_protocol.specs.Histories.Text.{AreProper, AreSaid, history_text}
+use Rattle.wb_history.specs.Past.{meant}
+use Rattle.wb_history.specs.Restored.{one_of}
+use Rattle.wb_protocol.specs.Histories.Text.{AreProper, AreSaid, edit_line, history_text}
+use Rattle.wb_text.specs.Lines.{book_text}
 use Rattle.wb_text.specs.Texts.Books.{IsBookText, book_in, cells_in, is_book_text}
 use Rattle.wb_text.proofs.Texts.Back.{book_back, cells_back}
 use Rattle.wb_sessions.specs.Checking.{IsPrinted}
@@ -59,18 +59,13 @@ is_upgraded text h said = record {
   same_workbook = made text ∙ cells_back text h;
 }
 
--- where the text of the history of the load was printed
-pub when_printed : {A E : Type 0} (text : List ℕ) (es : List Numbered) (r : Result A E) → IsBookText text → es ≡ loaded text
-    → OnOk r (AreProper es → AreSaid es) → OnOk r (IsUpgraded text)
-when_printed text es (Ok a) h same said = is_upgraded text h (subst (λ es. AreProper es → AreSaid es) same said)
-when_printed text es (Err e) h same said = tt
+-- the text is that of the workbook that its load makes
+pub made_text : (text : List ℕ) → IsBookText text → text ≡ book_text (replay (meant (loaded text)))
+made_text text h = h.spelled ∙ ap book_text (sym (made text ∙ cells_back text h))
 
--- the list of that edit alone has a history
-pub no_other : (text : List ℕ) (es : List (Edit × Bool)) (why : RestoreErr) → es ≡ (Load text, true) ∷ [] → why ≡ NotLegal
-    → RestoreReply (marked es) (Err why) → ⊥
-no_other text es why same is reply =
-    let told : IsLegal (meant (marked es)) → ⊥ = subst (λ w. RestoreReply (marked es) (Err w)) is reply in
-    told (subst (λ l. IsLegal (meant (marked l))) (sym same) (load_legal text))
+-- the line of the load is the only one
+pub only_line : (text : List ℕ) → flat_map edit_line (loaded text) ≡ edit_line (one_of (Load text) true)
+only_line text = append-nil (edit_line (one_of (Load text) true))
 
 -- what was printed is the text of the history of the load of what was read
 pub prints : (read bytes whole told text : List ℕ) (status : ℕ) → bytes ≡ read → whole ≡ history_text (loaded bytes) → told ≡ whole

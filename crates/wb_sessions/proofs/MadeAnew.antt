@@ -1,6 +1,6 @@
 -- What a journal is that was made anew, and what a crash leaves of it.
-use Rattle.std.proofs.Common.{◌≡◌, ◌⊎◌, ◌∙◌, inl, inr, ℕ, List, ◌∷◌, [], Option, Some, Result, Ok, Err, refl, sym, ap, subst}
-use Rattle.std.specs.Prelude.{◌≢◌, ◌<◌, IfErr, IsErrOf, OnOk}
+use Rattle.std.proofs.Common.{◌≡◌, ◌⊎◌, ◌∙◌, inl, inr, ℕ, Bool, true, false, List, ◌∷◌, [], Option, Some, Result, Ok, Err, refl, sym, ap, subst}
+use Rattle.std.specs.Prelude.{◌≢◌, ◌<◌, Decides, IfErr, IsErrOf, OnOk}
 use Rattle.wb_keep.specs.Disk.Device.{LeavesOnly}
 use Rattle.wb_keep.specs.declared.disk.device.Device as Device
 use Rattle.wb_keep.proofs.Disks.Moments.{joined, weaker}
@@ -15,10 +15,11 @@ use Rattle.wb_keeping.specs.Anew.{HasEdits}
 use Rattle.wb_kept.specs.Runs.{Leads}
 use Rattle.wb_kept.specs.declared.kept.Kept.{Kept}
 use Rattle.wb_history.specs.Past.{Numbered, Past}
-use Rattle.wb_sessions.specs.Compacting.{EndsAnew, IsAnew, StandsForEdits, TellsOfAnew}
-use Rattle.wb_sessions.specs.Keeping.{IsOpened}
+use Rattle.wb_sessions.specs.Compacting.{CompactsAt, EndsAnew, IsAnew, StandsForEdits, TellsOfAnew}
+use Rattle.wb_sessions.specs.Keeping.{DoesNothing, IsOpened, Streams, status_of_fault}
 use Rattle.wb_sessions.specs.declared.files.FileFault.{FileFault}
 use Rattle.wb_sessions.specs.declared.files.FileFault.TheVariants as faults
+use Rattle.wb_sessions.specs.declared.files.OpensFiles as OpensFiles
 use Rattle.wb_sessions.specs.declared.keeping.KeptRun.{KeptRun}
 
 module _ {D : Type 0} (device : Device.Ghosts D) where
@@ -69,3 +70,17 @@ module _ {D : Type 0} (device : Device.Ghosts D) where
   anew_fails opened es run (inl done) e = absurd (cc (done.0, e))
   anew_fails opened es run (inr (inl memory)) e = absurd (cc (memory.0, e))
   anew_fails opened es run (inr (inr failed)) e = (faults.Failed, failed.1)
+
+  -- ---- why no file was opened
+
+  module _ {J H : Type 0} (files : OpensFiles.Ghosts J D H) (path : List ℕ) (status : ℕ) (after : J) (s : Streams) (nothing : DoesNothing s) where
+    -- by whether nothing was found at its path
+    by_missing : (missing : Bool) → files.missing after ≡ missing → (fault : FileFault) → (missing ≡ true → fault ≡ faults.Missing)
+        → files.told after ≡ Some fault → status ≡ status_of_fault fault → CompactsAt device files path status after s
+    by_missing true is fault so told same =
+        inr (record { missing = is; nothing = nothing; told = told ∙ ap Some (so refl); is_status = same ∙ ap status_of_fault (so refl) })
+    by_missing false is fault so told same = inl (is, inr (record { nothing = nothing; fault = fault; told = told; is_status = same }))
+
+    pub not_found : (fault : FileFault) → Decides (files.missing after) (fault ≡ faults.Missing) → files.told after ≡ Some fault
+        → status ≡ status_of_fault fault → CompactsAt device files path status after s
+    not_found fault decides told same = by_missing (files.missing after) refl fault decides.0 told same

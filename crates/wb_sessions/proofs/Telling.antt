@@ -1,12 +1,13 @@
 -- That status 1 comes with a refusal alone, and what is told then.
-use Rattle.std.proofs.Common.{◌≡◌, ◌⊎◌, inl, inr, ℕ, List, refl, Some}
+use Rattle.std.proofs.Common.{◌≡◌, ◌⊎◌, inl, inr, ℕ, List, Option, refl, Some}
 use Rattle.wb_lines.specs.declared.machine.SessionEnd.{SessionEnd}
 use Rattle.wb_lines.specs.declared.machine.SessionEnd.TheVariants.{Done, ReadFault, WriteFault, TooManyReads, NoMemory}
 use Rattle.wb_sessions.specs.Checking.{IsFault, IsPrinted, Says, status_of_verdict}
-use Rattle.wb_sessions.specs.Reasons.{look_of, told_of}
+use Rattle.wb_sessions.specs.Reasons.{IsToldOf, WhyNothing}
 use Rattle.wb_sessions.specs.Running.{status_of}
 use Rattle.wb_sessions.specs.declared.checking.Verdict.{Verdict}
 use Rattle.wb_sessions.specs.declared.checking.Verdict.TheVariants as verdicts
+use Rattle.wb_sessions.specs.declared.reasons.Reason.{Reason}
 
 -- what is known of a refusal, where there was no fault in place of it
 pub or_fault : {P S F : Type 0} → P → S ⊎ F → (P × S) ⊎ F
@@ -36,9 +37,10 @@ no_say_of_1 : (v : Verdict) (status : ℕ) (text : List ℕ) → status ≡ 1 �
 no_say_of_1 v status text e zero_of (inl said) = cc (e, said.0, zero_of)
 no_say_of_1 v status text e zero_of (inr part) = no_fault_of_1 status e part.0
 
--- of a verdict that was printed with status 1 it is told why the bytes are refused
-pub told_of_1 : (v : Verdict) (status : ℕ) (text bytes : List ℕ) → status ≡ 1 → Says v status text → told_of v bytes ≡ Some (look_of bytes)
-told_of_1 (verdicts.Workbook count) status text bytes e says = absurd (no_say_of_1 (verdicts.Workbook count) status text e refl says)
-told_of_1 (verdicts.History count edits) status text bytes e says = absurd (no_say_of_1 (verdicts.History count edits) status text e refl says)
-told_of_1 (verdicts.Journal count edits) status text bytes e says = absurd (no_say_of_1 (verdicts.Journal count edits) status text e refl says)
-told_of_1 verdicts.Refused status text bytes e says = refl
+-- beside a verdict that was printed with status 1 it is told why the bytes are refused
+pub told_of_1 : (v : Verdict) (status : ℕ) (text bytes : List ℕ) (told : Option Reason) → status ≡ 1 → Says v status text → IsToldOf bytes v told
+    → (why : Reason) × WhyNothing bytes why × (told ≡ Some why)
+told_of_1 (verdicts.Workbook count) status text bytes told e says h = absurd (no_say_of_1 (verdicts.Workbook count) status text e refl says)
+told_of_1 (verdicts.History count edits) status text bytes told e says h = absurd (no_say_of_1 (verdicts.History count edits) status text e refl says)
+told_of_1 (verdicts.Journal count edits) status text bytes told e says h = absurd (no_say_of_1 (verdicts.Journal count edits) status text e refl says)
+told_of_1 verdicts.Refused status text bytes told e says h = h

@@ -1,5 +1,5 @@
 -- Journals that are made anew, and what is told of the file.
-use Rattle.std.specs.Prelude.{◌≡◌, ◌⊎◌, ◌<◌, ℕ, List, [], ◌∷◌, Option, None, Some, Result, Ok, Err}
+use Rattle.std.specs.Prelude.{◌≡◌, ◌⊎◌, ◌<◌, ℕ, true, false, List, [], ◌∷◌, Option, None, Some, Result, Ok, Err}
 use Rattle.wb_keep.specs.Disk.Device.{LeavesOnly, Only}
 use Rattle.wb_keep.specs.declared.disk.device.Device as Device
 use Rattle.wb_keeping.specs.Granting.Granting.{Grants, no_edit}
@@ -10,9 +10,10 @@ use Rattle.wb_keeping.specs.Anew.{HasEdits}
 use Rattle.wb_kept.specs.Runs.{Leads}
 use Rattle.wb_kept.specs.declared.kept.Kept.{Kept}
 use Rattle.wb_history.specs.Past.{Numbered, Past}
-use Rattle.wb_sessions.specs.Keeping.{DoesNothing, FailsToOpen, IsOpened, RefusesFile, RefusesLines, Streams}
+use Rattle.wb_sessions.specs.Keeping.{DoesNothing, FailsToOpen, IsOpened, RefusesFile, RefusesLines, Streams, UsesFile}
 use Rattle.wb_sessions.specs.declared.files.FileFault.{FileFault}
 use Rattle.wb_sessions.specs.declared.files.FileFault.TheVariants as faults
+use Rattle.wb_sessions.specs.declared.files.OpensFiles as OpensFiles
 use Rattle.wb_sessions.specs.declared.keeping.KeptRun.{KeptRun}
 
 -- The file stands for a history with these edits, and has a header where another has one.
@@ -55,3 +56,15 @@ module _ {D : Type 0} (device : Device.Ghosts D) where
   -- the journal was opened and made anew; or a line of it is refused, or the file; or it could not be opened
   abbrev pub Compacts : (file : D) → (held : List ℕ) → KeptRun D → Streams → Type 0
   Compacts file held run s = MakesAnew file held run s ⊎ (RefusesLines device file held run s ⊎ (RefusesFile device file held run s ⊎ FailsToOpen device file held run s))
+
+module _ {D J H : Type 0} (device : Device.Ghosts D) (files : OpensFiles.Ghosts J D H) where
+  -- Nothing was found at the path, which is told. No file was made, and nothing was read or written.
+  pub record FindsNone (status : ℕ) (after : J) (s : Streams) : Type 0 where
+    pub missing : files.missing after ≡ true
+    pub nothing : DoesNothing s
+    pub told : files.told after ≡ Some faults.Missing
+    pub is_status : status ≡ 3
+
+  -- a file was found at the path, and made anew so, or not opened; or none was found there
+  abbrev pub CompactsAt : (path : List ℕ) → (status : ℕ) → (after : J) → Streams → Type 0
+  CompactsAt path status after s = ((files.missing after ≡ false) × UsesFile device files (Compacts device) path status after s) ⊎ FindsNone status after s

@@ -2,6 +2,7 @@ pub mod Running
 pub mod Checking
 pub mod Resuming
 pub mod Upgrading
+pub mod Places
 pub mod Reasons
 pub mod Keeping
 pub mod Beginning

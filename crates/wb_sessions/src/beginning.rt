@@ -1,5 +1,5 @@
 //! Sessions whose journal begins with the history whose text comes first.
-ghost use Rattle.std.specs.Prelude.{◌≡◌, ◌⊎◌, ℕ, List, [], true, IfOk, IfErr, IfSome, IfNone};
+ghost use Rattle.std.specs.Prelude.{◌≡◌, ◌≢◌, ◌⊎◌, ℕ, List, [], true, IfOk, IfErr, IfSome, IfNone};
 ghost use Rattle.std.specs.Io.KnownBytes.{Appends, Consumes};
 ghost use Rattle.wb_keep.specs.Disk.Device.{Only};
 ghost use Rattle.wb_keeping.specs.Opening.{IsOpening};
@@ -7,6 +7,7 @@ ghost use Rattle.wb_lines.specs.Causes.{RisesBy};
 ghost use Rattle.wb_sessions.specs.Beginning.{RunsBegun, TellsOf};
 ghost use Rattle.wb_sessions.specs.Checking.{IsAnswered, IsFault, IsNoRecord, Says};
 ghost use Rattle.wb_sessions.specs.Keeping.{FailsKept, FinishesKept, streams};
+ghost use Rattle.wb_sessions.specs.Reasons.{Tells, WhyNoOpening};
 ghost use Rattle.wb_sessions.specs.Resuming.{left_in, failed_in, reads_in, IsRecord, IsUpToEnd, NoOpening};
 ghost use Rattle.wb_sessions.specs.Running.{HasFailedByNow};
 ghost use Rattle.wb_sessions.specs.declared.checking.Verdict.TheVariants.{Refused};
@@ -15,7 +16,8 @@ use crate::checking::{Verdict, say};
 use crate::files::FileFault;
 use crate::keeping::{KeptRun, serve_from};
 use crate::put_back::PutBack;
-use crate::resuming::{parts, read_opening};
+use crate::reasons::{Reason, look_of};
+use crate::resuming::{parts, read_opening, refuse};
 use crate::running::{INPUT_OR_OUTPUT_FAILED, NO_MEMORY};
 use std::alloc::Global;
 use std::str::from_utf8;
@@ -40,12 +42,13 @@ fn opening_in<M: Mover>(alloc: Global, bytes: &[u8], mover: &M) -> Result<Option
 }
 
 /// Reads the text of a history up to its line `end`, and leaves what comes behind it: the history, with the line that it begins
-/// with. Or the exit status, after `refused` was printed, where there is no such text, or after a fault.
+/// with. Or the exit status, after `refused` was printed, where there is no such text, or after a fault. With 1 it tells why.
 pub fn opening_from<R: Source, W: Sink, M: Mover>(
     alloc: Global,
     reader: &mut PutBack<R>,
     writer: &mut W,
     mover: &M,
+    why: &mut Option<Reason>,
 ) -> Result<Opening, u8>
     // The history, by its text up to the end; nothing is printed.
     ensures opening { IfOk result (λ o. IsOpening o) }
@@ -61,6 +64,8 @@ pub fn opening_from<R: Source, W: Sink, M: Mover>(
     ensures flushed { IfErr result (λ status. IsAnswered status → W.flushed writer.new ≡ true) }
     ensures failed { IfErr result (λ status. status ≡ 3
         → HasFailedByNow (failed_in reader.new) (reads_in reader.old) (reads_in reader.new) (W.failed writer.new)) }
+    ensures why { IfErr result (λ status. status ≡ 1
+        → Tells WhyNoOpening (left_in R.remaining reader.old) (left_in R.remaining reader.new) why.new) }
 {
     let bytes = match read_opening(alloc, reader) {
         Ok(bytes) => bytes,
@@ -69,6 +74,7 @@ pub fn opening_from<R: Source, W: Sink, M: Mover>(
         Err(LineFault::TooManyReads) => return Err(INPUT_OR_OUTPUT_FAILED),
     };
     let Some((front, behind)) = parts(&bytes) else {
+        *why = Some(look_of(&bytes));
         return Err(say(alloc, Verdict::Refused, writer));
     };
     match opening_in(alloc, front, mover) {
@@ -76,7 +82,7 @@ pub fn opening_from<R: Source, W: Sink, M: Mover>(
             Ok(()) => Ok(opening),
             Err(_) => Err(NO_MEMORY),
         },
-        Ok(None) => Err(say(alloc, Verdict::Refused, writer)),
+        Ok(None) => Err(refuse(alloc, front, writer, mover, why)),
         Err(NoMemory) => Err(NO_MEMORY),
     }
 }
@@ -85,6 +91,7 @@ pub fn opening_from<R: Source, W: Sink, M: Mover>(
 fn not_begun<D>(why: BeginErr, file: D) -> KeptRun<D>
     ensures told { TellsOf why result.status result.fault }
     ensures file { result.file ≡ file }
+    ensures no_refusal { result.status ≢ 1 }
 {
     let (status, fault) = match why {
         BeginErr::NotOurs => (INPUT_OR_OUTPUT_FAILED, Some(FileFault::NotOurs)),
@@ -101,7 +108,7 @@ fn not_begun<D>(why: BeginErr, file: D) -> KeptRun<D>
 
 /// Begins a file that holds these bytes with a history, and then answers each line of the reader on it, as `run_kept_with` does.
 /// A file that has a line, and one of another kind, stays as it was, and nothing is printed. A crash leaves the lines from before or the
-/// history, and after the first reply the history after the first so many lines.
+/// history, and after the first reply the history after the first so many lines. Nothing is refused: status 1 doesn't come.
 pub fn begin_kept_with<D: Device, R: Source, W: Sink, M: Mover>(
     alloc: Global,
     opening: Opening,
@@ -117,6 +124,7 @@ pub fn begin_kept_with<D: Device, R: Source, W: Sink, M: Mover>(
     ensures runs { RunsBegun D.Device opening.history file held.now result (streams R.Source W.Sink reader.old reader.new writer.old writer.new) }
     ensures done { FinishesKept result.status (streams R.Source W.Sink reader.old reader.new writer.old writer.new) }
     ensures failed { FailsKept result.status result.fault (streams R.Source W.Sink reader.old reader.new writer.old writer.new) }
+    ensures no_refusal { result.status ≢ 1 }
 {
     match begin_kept(alloc, opening, file, held) {
         Ok(kept) => serve_from(alloc, kept, reader, writer, mover),

@@ -1,14 +1,14 @@
 //! Whether an input is the text of a workbook or of a history, or a journal.
 
-ghost use Rattle.std.specs.Prelude.{◌≡◌, ℕ, List, true, IfOk, IfNone, IfSome, string_bytes};
+ghost use Rattle.std.specs.Prelude.{◌≡◌, ℕ, List, true, IfOk, IfErr, OnErr, string_bytes};
 ghost use Rattle.std.specs.Io.KnownBytes.{Appends, Consumes, IsAtEnd};
 ghost use Rattle.wb_reading.specs.Reading.{IsNoBook};
-ghost use Rattle.wb_sessions.specs.Checking.{IsNoJournal, IsTextVerdict, IsVerdict, verdict_text, status_of_verdict, IsPrinted, Says, Judges, IsAnswered};
-ghost use Rattle.wb_sessions.specs.Reasons.{Tells, WhyNothing, told_of};
+ghost use Rattle.wb_sessions.specs.Checking.{IsJournalOf, IsNoJournal, IsTextVerdict, IsVerdict, verdict_text, status_of_verdict, IsPrinted, Says, Judges, IsAnswered};
+ghost use Rattle.wb_sessions.specs.Reasons.{IsToldOf, StopsJournal, Tells, WhyNothing};
 ghost use Rattle.wb_sessions.specs.Running.{HasFailed};
 
 use crate::keeping::opened;
-use crate::reasons::{Reason, look_of};
+use crate::reasons::{Reason, why_no_text};
 use crate::running::{DONE, INPUT_OR_OUTPUT_FAILED, NO_MEMORY};
 use std::alloc::{AllocError, Global};
 use std::str::from_utf8;
@@ -78,17 +78,19 @@ fn verdict_as_text<M: Mover>(alloc: Global, bytes: &[u8], mover: &M) -> Result<V
     }
 }
 
-// What a journal has, if the bytes are one.
-fn verdict_on_journal<M: Mover>(
+// How many objects and edits a journal has, if the bytes are one; or the first change, from 0, that is not granted, if they have its
+// header.
+fn counts_of_journal<M: Mover>(
     alloc: Global,
     bytes: &[u8],
     mover: &M,
-) -> Result<Option<Verdict>, NoMemory>
-    ensures some { IfOk result (λ r. IfSome r (λ v. IsVerdict bytes.now v)) }
-    ensures none { IfOk result (λ r. IfNone r (IsNoJournal bytes.now)) }
+) -> Result<Result<(usize, u64), Option<usize>>, NoMemory>
+    ensures ok { IfOk result (λ r. IfOk r (λ counts. IsJournalOf bytes.now counts.0 counts.1)) }
+    ensures none { IfOk result (λ r. OnErr r (IsNoJournal bytes.now)) }
+    ensures stop { IfOk result (λ r. IfErr r (λ stop. StopsJournal bytes.now stop)) }
 {
     if bytes.len() < HEADER_LENGTH {
-        return Ok(None);
+        return Ok(Err(None));
     }
     let Ok(held) = bytes.to_vec(alloc) else {
         return Err(NoMemory);
@@ -101,22 +103,72 @@ fn verdict_on_journal<M: Mover>(
     ) {
         Ok(kept) => {
             let book = kept.state.book();
-            Ok(Some(Verdict::Journal(book.objects(), kept.state.len())))
+            Ok(Ok((book.objects(), kept.state.len())))
         }
-        Err((OpenKeptErr::NotOurs, _)) => Ok(None),
-        Err((OpenKeptErr::NotGranted(_), _)) => Ok(None),
+        Err((OpenKeptErr::NotOurs, _)) => Ok(Err(None)),
+        Err((OpenKeptErr::NotGranted(place), _)) => Ok(Err(Some(place))),
         // A file in memory fails only for want of it.
         Err(_) => Err(NoMemory),
     }
 }
 
-/// Whether bytes are the text of a workbook or of a history, or a journal, and how many objects and edits there are.
-pub fn verdict_on<M: Mover>(alloc: Global, bytes: &[u8], mover: &M) -> Result<Verdict, NoMemory>
-    ensures { IfOk result (λ v. IsVerdict bytes.now v) }
+// Why bytes are refused that are no journal, by the first change that is not granted, if they have its header.
+fn why_nothing<M: Mover>(
+    alloc: Global,
+    bytes: &[u8],
+    stop: Option<usize>,
+    mover: &M,
+) -> Result<Reason, NoMemory>
+    requires { StopsJournal bytes.now stop }
+    ensures { IfOk result (λ why. WhyNothing bytes.now why) }
 {
-    match verdict_on_journal(alloc, bytes, mover) {
-        Ok(Some(verdict)) => Ok(verdict),
-        Ok(None) => verdict_as_text(alloc, bytes, mover),
+    match stop {
+        Some(place) => Ok(Reason::NotGranted(place)),
+        None => why_no_text(alloc, bytes, mover),
+    }
+}
+
+// What is told beside a verdict on bytes that are no journal.
+fn told_of<M: Mover>(
+    alloc: Global,
+    bytes: &[u8],
+    verdict: Verdict,
+    stop: Option<usize>,
+    mover: &M,
+) -> Result<Option<Reason>, NoMemory>
+    requires { StopsJournal bytes.now stop }
+    ensures { IfOk result (λ told. IsToldOf bytes.now verdict told) }
+{
+    match verdict {
+        Verdict::Workbook(_) | Verdict::History(_, _) | Verdict::Journal(_, _) => Ok(None),
+        Verdict::Refused => match why_nothing(alloc, bytes, stop, mover) {
+            Ok(why) => Ok(Some(why)),
+            Err(NoMemory) => Err(NoMemory),
+        },
+    }
+}
+
+/// Whether bytes are the text of a workbook or of a history, or a journal, and how many objects and edits there are; and why they are
+/// refused, if they are.
+pub fn verdict_on<M: Mover>(
+    alloc: Global,
+    bytes: &[u8],
+    mover: &M,
+) -> Result<(Verdict, Option<Reason>), NoMemory>
+    ensures verdict { IfOk result (λ found. IsVerdict bytes.now found.0) }
+    ensures told { IfOk result (λ found. IsToldOf bytes.now found.0 found.1) }
+{
+    let stop = match counts_of_journal(alloc, bytes, mover) {
+        Ok(Ok((objects, edits))) => return Ok((Verdict::Journal(objects, edits), None)),
+        Ok(Err(stop)) => stop,
+        Err(NoMemory) => return Err(NoMemory),
+    };
+    let verdict = match verdict_as_text(alloc, bytes, mover) {
+        Ok(verdict) => verdict,
+        Err(NoMemory) => return Err(NoMemory),
+    };
+    match told_of(alloc, bytes, verdict, stop, mover) {
+        Ok(told) => Ok((verdict, told)),
         Err(NoMemory) => Err(NoMemory),
     }
 }
@@ -139,16 +191,6 @@ pub fn status_of_verdict(verdict: Verdict) -> u8
     match verdict {
         Verdict::Workbook(_) | Verdict::History(_, _) | Verdict::Journal(_, _) => DONE,
         Verdict::Refused => REFUSED,
-    }
-}
-
-// Why bytes are refused, if this is the verdict on them.
-fn told_of(verdict: Verdict, bytes: &[u8]) -> Option<Reason>
-    ensures { result ≡ told_of verdict bytes.now }
-{
-    match verdict {
-        Verdict::Workbook(_) | Verdict::History(_, _) | Verdict::Journal(_, _) => None,
-        Verdict::Refused => Some(look_of(bytes)),
     }
 }
 
@@ -211,8 +253,8 @@ pub fn check_with<R: Source, W: Sink, M: Mover>(
         Err(LineFault::TooManyReads) => return INPUT_OR_OUTPUT_FAILED,
     };
     match verdict_on(alloc, &bytes, mover) {
-        Ok(verdict) => {
-            *why = told_of(verdict, &bytes);
+        Ok((verdict, told)) => {
+            *why = told;
             say(alloc, verdict, writer)
         }
         Err(NoMemory) => NO_MEMORY,

@@ -1,7 +1,9 @@
 //! What a journal is kept in: a file of this machine.
-ghost use Rattle.std.specs.Prelude.{◌≡◌, ℕ, List, Option, Some, IfOk, IfErr};
+ghost use Rattle.std.specs.Prelude.{◌≡◌, ◌≢◌, ℕ, List, Bool, true, false, Option, Some, IfOk, IfErr, Decides};
+ghost use Rattle.wb_keep.specs.Disk.Calls.{IsHeld};
 ghost use Rattle.wb_keep.specs.Disk.Device.{Only};
 
+use std::fs;
 use std::io::{self, ErrorKind};
 use wb_keep::START;
 use wb_keep::disk::{DiskFile, OpenDiskErr, Replaces, open_file};
@@ -25,6 +27,8 @@ pub enum FileFault {
     Failed,
     /// A growth was refused.
     NoMemory,
+    /// Nothing was found at its path, and none is to be made.
+    Missing,
 }
 
 /// What opens the file of a journal, and is told how that came out.
@@ -40,10 +44,21 @@ pub trait OpensFiles<D: Replaces> {
     // What was told of a file last.
     ghost told: { Self → Option FileFault };
 
+    // Nothing was found at the path of the file that was to be opened where there is one.
+    ghost missing: { Self → Bool };
+
     /// Opens the file at a path, which is made where there is none: the file, and what it holds, all of it on the disk.
     fn open(&mut self, path: &str) -> Result<(D, Vec<u8>), FileFault>
         ensures came { IfOk result (λ opened. came self.new path.now opened.0 opened.1.items) }
         ensures held { IfOk result (λ opened. (D.Device.seen opened.0 ≡ opened.1.items) × Only (D.Device.seen opened.0) (D.Device.may_leave opened.0)) }
+        ensures told { IfErr result (λ fault. told self.new ≡ Some fault) };
+
+    /// Opens the file at a path, as `open` does, if one is found there. None is made for a path at which nothing is found.
+    fn open_found(&mut self, path: &str) -> Result<(D, Vec<u8>), FileFault>
+        ensures came { IfOk result (λ opened. came self.new path.now opened.0 opened.1.items) }
+        ensures held { IfOk result (λ opened. (D.Device.seen opened.0 ≡ opened.1.items) × Only (D.Device.seen opened.0) (D.Device.may_leave opened.0)) }
+        ensures found { IfOk result (λ _. missing self.new ≡ false) }
+        ensures missing { IfErr result (λ fault. Decides (missing self.new) (fault ≡ FileFault.Missing)) }
         ensures told { IfErr result (λ fault. told self.new ≡ Some fault) };
 
     /// What a new file is put in place of another by.
@@ -53,6 +68,7 @@ pub trait OpensFiles<D: Replaces> {
     fn close(&mut self, file: D, fault: Option<FileFault>)
         ensures closed { closed self.new file }
         ensures told { told self.new ≡ fault }
+        ensures missing { missing self.new ≡ missing self.old }
         ensures came { (path : List ℕ) (file : D) (held : List ℕ) → came self.old path file held → came self.new path file held };
 }
 
@@ -63,6 +79,7 @@ pub struct Files<'a> {
     told: Option<FileFault>,
     cause: Option<io::Error>,
     closed: Option<DiskFile>,
+    missing: bool,
 }
 
 impl<'a> Files<'a> {
@@ -73,6 +90,7 @@ impl<'a> Files<'a> {
             told: None,
             cause: None,
             closed: None,
+            missing: false,
         }
     }
 
@@ -88,7 +106,9 @@ impl<'a> Files<'a> {
 }
 
 // Why a file is not opened, and the system's words for it.
-fn fault_of(error: OpenDiskErr) -> (FileFault, Option<io::Error>) {
+fn fault_of(error: OpenDiskErr) -> (FileFault, Option<io::Error>)
+    ensures { result.0 ≢ FileFault.Missing }
+{
     match error {
         OpenDiskErr::Memory => (FileFault::NoMemory, None),
         OpenDiskErr::Busy => (FileFault::Busy, None),
@@ -97,6 +117,33 @@ fn fault_of(error: OpenDiskErr) -> (FileFault, Option<io::Error>) {
             ErrorKind::OutOfMemory => (FileFault::NoMemory, None),
             _ => (FileFault::NotOpened, Some(error)),
         },
+    }
+}
+
+impl<'a> Files<'a> {
+    // Why a file is not opened, which is told.
+    fn not_opened(&mut self, error: OpenDiskErr) -> FileFault
+        ensures other { result ≢ FileFault.Missing }
+        ensures told { self.new.told ≡ Some result }
+        ensures missing { self.new.missing ≡ self.old.missing }
+    {
+        let (fault, cause) = fault_of(error);
+        self.told = Some(fault);
+        self.cause = cause;
+        fault
+    }
+
+    // Opens the file at a path, which is made where there is none.
+    fn open_or_make(&mut self, path: &str) -> Result<(DiskFile, Vec<u8>), FileFault>
+        ensures held { IfOk result (λ opened. IsHeld opened.1.items opened.0.calls) }
+        ensures other { IfErr result (λ fault. fault ≢ FileFault.Missing) }
+        ensures told { IfErr result (λ fault. self.new.told ≡ Some fault) }
+        ensures missing { self.new.missing ≡ self.old.missing }
+    {
+        match open_file(self.rt, path, &START) {
+            Ok(opened) => Ok(opened),
+            Err(error) => Err(self.not_opened(error)),
+        }
     }
 }
 
@@ -110,15 +157,24 @@ impl<'a> OpensFiles<DiskFile> for Files<'a> {
 
     ghost told = { λ s. s.told };
 
+    ghost missing = { λ s. s.missing };
+
     fn open(&mut self, path: &str) -> Result<(DiskFile, Vec<u8>), FileFault> {
-        match open_file(self.rt, path, &START) {
-            Ok(opened) => Ok(opened),
-            Err(error) => {
-                let (fault, cause) = fault_of(error);
-                self.told = Some(fault);
-                self.cause = cause;
-                Err(fault)
+        self.open_or_make(path)
+    }
+
+    // (a file that another process takes away between the look and the opening is made)
+    fn open_found(&mut self, path: &str) -> Result<(DiskFile, Vec<u8>), FileFault> {
+        self.missing = false;
+        match fs::exists(self.rt, path) {
+            Ok(true) => self.open_or_make(path),
+            Ok(false) => {
+                self.missing = true;
+                self.told = Some(FileFault::Missing);
+                self.cause = None;
+                Err(FileFault::Missing)
             }
+            Err(error) => Err(self.not_opened(OpenDiskErr::Io(error))),
         }
     }
 

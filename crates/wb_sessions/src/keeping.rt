@@ -1,5 +1,5 @@
 //! Sessions whose changes are kept in a journal, and the exit status after each.
-ghost use Rattle.std.specs.Prelude.{◌≡◌, ◌++◌, ℕ, List, true, false, IfOk, IfErr};
+ghost use Rattle.std.specs.Prelude.{◌≡◌, ◌≢◌, ◌++◌, ℕ, List, true, false, IfOk, IfErr};
 ghost use Rattle.wb_keep.specs.Disk.Device.{Only};
 ghost use Rattle.wb_kept.specs.Sessions.{KeepsUntil, ReadsUntil, WritesUntil};
 ghost use Rattle.wb_history.specs.Past.{Past};
@@ -31,7 +31,8 @@ pub struct KeptRun<D> {
 
 // The exit status after a session with a journal.
 fn status_of_end(end: KeptEnd) -> u8
-    ensures { result ≡ status_of_end end }
+    ensures status { result ≡ status_of_end end }
+    ensures no_refusal { result ≢ 1 }
 {
     match end {
         KeptEnd::Done(_) => DONE,
@@ -109,6 +110,7 @@ pub(crate) fn serve_from<D: Device, R: Source, W: Sink, M: Mover>(
     ensures serves { ServesOn D.Device kept result (streams R.Source W.Sink reader.old reader.new writer.old writer.new) }
     ensures done { FinishesKept result.status (streams R.Source W.Sink reader.old reader.new writer.old writer.new) }
     ensures failed { FailsKept result.status result.fault (streams R.Source W.Sink reader.old reader.new writer.old writer.new) }
+    ensures no_refusal { result.status ≢ 1 }
 {
     let mut kept = kept;
     let end = served(alloc, &mut kept, reader, writer, mover);

@@ -8,6 +8,7 @@ mod checking;
 mod compacting;
 mod files;
 mod keeping;
+mod places;
 mod put_back;
 mod reasons;
 mod resuming;

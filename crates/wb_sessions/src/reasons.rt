@@ -1,7 +1,8 @@
 //! Why an input is refused.
 ghost use Rattle.std.specs.Prelude.{◌≡◌, IfOk};
-ghost use Rattle.wb_sessions.specs.Reasons.{WhyNoBook, WhyNoHistory, look_of};
+ghost use Rattle.wb_sessions.specs.Reasons.{WhyNoBook, WhyNoHistory, WhyNoText, look_of};
 
+use crate::places::why_altered;
 use std::alloc::Global;
 use std::str::from_utf8;
 use wb_arrays::Mover;
@@ -33,6 +34,12 @@ pub enum Reason {
     Altered,
     /// It does not begin as a text of ours.
     NotOurs,
+    /// It has the header of a journal, and this change, from 0, is the first that is not granted.
+    NotGranted(usize),
+    /// It begins and ends as the text of a history, and this line, from 0, is the first with which none goes on.
+    LineNotGranted(usize),
+    /// Its edits are those of a history, and the lines above them are not.
+    OtherHeading,
 }
 
 /// Why these bytes are refused, by how they begin and end.
@@ -51,12 +58,38 @@ pub(crate) fn look_of(bytes: &[u8]) -> Reason
     Reason::CutShort
 }
 
+/// Why these bytes are refused, which are no text of ours: where they are no history's, if they begin and end as one's.
+pub(crate) fn why_no_text<M: Mover>(
+    alloc: Global,
+    bytes: &[u8],
+    mover: &M,
+) -> Result<Reason, NoMemory>
+    ensures { IfOk result (λ why. WhyNoText bytes.now why) }
+{
+    let look = look_of(bytes);
+    match look {
+        Reason::Altered => why_altered(alloc, bytes, mover),
+        Reason::Workbook
+        | Reason::History
+        | Reason::Journal
+        | Reason::CutShort
+        | Reason::NotOurs
+        | Reason::NotGranted(_)
+        | Reason::LineNotGranted(_)
+        | Reason::OtherHeading => Ok(look),
+    }
+}
+
 /// Why these bytes are refused where the text of a history is wanted, which they are not.
-pub(crate) fn why_no_history(alloc: Global, bytes: &[u8]) -> Result<Reason, NoMemory>
+pub(crate) fn why_no_history<M: Mover>(
+    alloc: Global,
+    bytes: &[u8],
+    mover: &M,
+) -> Result<Reason, NoMemory>
     ensures { IfOk result (λ why. WhyNoHistory bytes.now why) }
 {
     let Ok(text) = from_utf8(bytes) else {
-        return Ok(look_of(bytes));
+        return why_no_text(alloc, bytes, mover);
     };
     match read_book(alloc, text) {
         Ok(book) => {
@@ -64,7 +97,7 @@ pub(crate) fn why_no_history(alloc: Global, bytes: &[u8]) -> Result<Reason, NoMe
             let _well_formed = book.writes();
             Ok(Reason::Workbook)
         }
-        Err(BookErr::Bad) => Ok(look_of(bytes)),
+        Err(BookErr::Bad) => why_no_text(alloc, bytes, mover),
         Err(BookErr::NoMemory) => Err(NoMemory),
     }
 }

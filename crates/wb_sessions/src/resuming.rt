@@ -2,7 +2,7 @@
 ghost use Rattle.std.specs.Prelude.{◌≡◌, ◌++◌, ◌⊎◌, ℕ, List, [], Some, true, IfOk, IfErr, IfSome, IfNone, OnOk, OnErr, option_map};
 ghost use Rattle.std.specs.Io.KnownBytes.{Appends, Consumes, IsAtEnd};
 ghost use Rattle.wb_lines.specs.Causes.{RisesBy, StopsReading};
-ghost use Rattle.wb_sessions.specs.Checking.{IsNoRecord, IsFault, Says};
+ghost use Rattle.wb_sessions.specs.Checking.{IsAnswered, IsNoRecord, IsFault, Says};
 ghost use Rattle.wb_sessions.specs.Reasons.{Tells, WhyNoHistory, WhyNoOpening};
 ghost use Rattle.wb_sessions.specs.Running.{HasFailed, HasFailedByNow};
 ghost use Rattle.wb_sessions.specs.Resuming.{left_in, failed_in, reads_in, IsRecord, IsUpToEnd, HasNoEnd, IsServed, IsResumed, IsOpening};
@@ -45,14 +45,21 @@ fn history_of<M: Mover>(alloc: Global, bytes: &[u8], mover: &M) -> Result<Option
     }
 }
 
-// Prints that bytes are refused, which are the text of no history, and tells why: the exit status.
-fn refuse<W: Sink>(alloc: Global, bytes: &[u8], writer: &mut W, why: &mut Option<Reason>) -> u8
+/// Prints that bytes are refused, which are the text of no history, and tells why: the exit status.
+pub(crate) fn refuse<W: Sink, M: Mover>(
+    alloc: Global,
+    bytes: &[u8],
+    writer: &mut W,
+    mover: &M,
+    why: &mut Option<Reason>,
+) -> u8
     ensures says { (text : List ℕ) × Appends (W.contents writer.old) (W.contents writer.new) text
         × (Says Refused result text ⊎ (IsFault result × (text ≡ []))) }
+    ensures flushed { IsAnswered result → W.flushed writer.new ≡ true }
     ensures failed { result ≡ 3 → W.failed writer.new ≡ true }
     ensures why { result ≡ 1 → (reason : Reason) × WhyNoHistory bytes.now reason × (why.new ≡ Some reason) }
 {
-    match why_no_history(alloc, bytes) {
+    match why_no_history(alloc, bytes, mover) {
         Ok(reason) => {
             *why = Some(reason);
             say(alloc, Verdict::Refused, writer)
@@ -87,7 +94,7 @@ pub fn history_from<R: Source, W: Sink, M: Mover>(
     };
     match history_of(alloc, &bytes, mover) {
         Ok(Some(history)) => Ok(history),
-        Ok(None) => Err(refuse(alloc, &bytes, writer, why)),
+        Ok(None) => Err(refuse(alloc, &bytes, writer, mover, why)),
         Err(NoMemory) => Err(NO_MEMORY),
     }
 }
@@ -190,7 +197,7 @@ pub fn resume_with<R: Source, W: Sink, M: Mover>(
     match parts(&bytes) {
         Some((front, behind)) => match history_of(alloc, front, mover) {
             Ok(Some(history)) => go_on(alloc, history, behind, reader, writer, mover),
-            Ok(None) => refuse(alloc, front, writer, why),
+            Ok(None) => refuse(alloc, front, writer, mover, why),
             Err(NoMemory) => NO_MEMORY,
         },
         None => {

@@ -1,7 +1,11 @@
 //! The text of a workbook, made the text of a history: that of its load.
-ghost use Rattle.std.specs.Prelude.{◌≡◌, ◌⊎◌, ℕ, List, [], Some, true, IfOk, OnOk, IfSome, IfNone, string_bytes};
+ghost use Rattle.std.specs.Prelude.{◌≡◌, ◌⊎◌, ◌++◌, ℕ, List, [], Some, true, IfOk, OnOk, IfSome, IfNone, string_bytes};
 ghost use Rattle.std.specs.Io.KnownBytes.{Appends, Consumes, IsAtEnd};
-ghost use Rattle.wb_protocol.specs.Histories.Text.{history_text};
+ghost use Rattle.std.specs.List.{flat_map};
+ghost use Rattle.selective_undo.specs.History.{replay};
+ghost use Rattle.wb_history.specs.Past.{meant};
+ghost use Rattle.wb_protocol.specs.Encoding.Text.{AreJson, edit_line};
+ghost use Rattle.wb_protocol.specs.Histories.Text.{history_text, objects_text};
 ghost use Rattle.wb_sessions.specs.Checking.{IsAnswered, IsFault, Says};
 ghost use Rattle.wb_sessions.specs.Reasons.{Tells, WhyNoBook};
 ghost use Rattle.wb_sessions.specs.Running.{HasFailed};
@@ -12,45 +16,54 @@ ghost use Rattle.wb_sessions.specs.declared.reasons.Reason.{Reason};
 use crate::checking::{Verdict, say, tell};
 use crate::reasons::{Reason, why_no_book};
 use crate::running::{INPUT_OR_OUTPUT_FAILED, NO_MEMORY};
-use std::alloc::Global;
+use std::alloc::{AllocError, Global};
+use std::fmt::Write;
 use std::str::from_utf8;
 use wb_arrays::Mover;
 use wb_edit::Edit;
-use wb_history::{History, RestoreErr};
 use wb_lines::{LineFault, Sink, Source, read_all};
-use wb_protocol::histories::print_history;
+use wb_protocol::encoding::{objects_in, push_edit};
 use wb_range::NoMemory;
 use wb_reading::{BookErr, read_text};
 use wb_text::BookText;
 
-// The history that has one edit, the load of this text, in force.
-fn loaded<M: Mover>(alloc: Global, text: BookText, mover: &M) -> Result<History, NoMemory>
-    ensures { IfOk result (λ h. h.entries ≡ loaded text) }
+// The lines of the workbook's objects, put at the end of a text: as they stand in the text of the workbook.
+fn push_objects(out: &mut String, text: &BookText) -> Result<(), AllocError>
+    ensures { OnOk result (string_bytes out.new ≡ string_bytes out.old ++ objects_text (replay (meant (loaded text.now)))) }
 {
-    let mut edits = Vec::new(alloc);
-    if edits.push((Edit::Load(text), true)).is_err() {
-        return Err(NoMemory);
-    }
-    match History::restore(alloc, edits, mover) {
-        Ok(history) => Ok(history),
-        Err(RestoreErr::NotLegal) => unreachable!(),
-        Err(RestoreErr::NoMemory) => Err(NoMemory),
+    match objects_in(text.as_str()) {
+        Some(lines) => out.push_str(lines),
+        None => unreachable!(),
     }
 }
 
-// The text of the history whose one edit is the load of this text.
-fn text_of_load<M: Mover>(alloc: Global, text: BookText, mover: &M) -> Result<String, NoMemory>
+// The line of the load, put at the end of a text: the one of its history.
+fn push_load(alloc: Global, out: &mut String, text: BookText) -> Result<(), NoMemory>
+    ensures lines { OnOk result (string_bytes out.new ≡ string_bytes out.old ++ flat_map edit_line (loaded text)) }
+    ensures json { OnOk result (AreJson (loaded text)) }
+{
+    push_edit(alloc, out, &Edit::Load(text), true)
+}
+
+// The text of the history whose one edit is the load of this text. The history is not made: its workbook has this text.
+fn text_of_load(alloc: Global, text: BookText) -> Result<String, NoMemory>
     ensures text { IfOk result (λ t. string_bytes t ≡ history_text (loaded text)) }
     ensures upgraded { OnOk result (IsUpgraded text) }
 {
     // For the proof: the text is a workbook's.
     let _workbook = text.as_str();
-    let history = loaded(alloc, text, mover)?;
-    print_history(alloc, &history)
+    let count = 1;
+    let mut out = String::new(alloc);
+    out.push_str("chapel-workbook 2\n")?;
+    push_objects(&mut out, &text)?;
+    write!(out, "history {count}\n")?;
+    push_load(alloc, &mut out, text)?;
+    out.push_str("end\n")?;
+    Ok(out)
 }
 
 // The text of the history whose one edit is the load of these bytes, where they are the text of a workbook.
-fn upgraded<M: Mover>(alloc: Global, bytes: &[u8], mover: &M) -> Result<Option<String>, NoMemory>
+fn upgraded(alloc: Global, bytes: &[u8]) -> Result<Option<String>, NoMemory>
     ensures some { IfOk result (λ r. IfSome r (λ t. IsUpgraded bytes.now × (string_bytes t ≡ history_text (loaded bytes.now)))) }
     ensures none { IfOk result (λ r. IfNone r (HasNoBook bytes.now)) }
 {
@@ -58,7 +71,7 @@ fn upgraded<M: Mover>(alloc: Global, bytes: &[u8], mover: &M) -> Result<Option<S
         return Ok(None);
     };
     match read_text(alloc, text) {
-        Ok(book) => match text_of_load(alloc, book, mover) {
+        Ok(book) => match text_of_load(alloc, book) {
             Ok(history) => Ok(Some(history)),
             Err(NoMemory) => Err(NoMemory),
         },
@@ -115,7 +128,7 @@ pub fn upgrade_with<R: Source, W: Sink, M: Mover>(
         Err(LineFault::ReadFault) => return INPUT_OR_OUTPUT_FAILED,
         Err(LineFault::TooManyReads) => return INPUT_OR_OUTPUT_FAILED,
     };
-    match upgraded(alloc, &bytes, mover) {
+    match upgraded(alloc, &bytes) {
         Ok(Some(text)) => tell(text.as_str(), writer),
         Ok(None) => refuse(alloc, &bytes, writer, mover, why),
         Err(NoMemory) => NO_MEMORY,

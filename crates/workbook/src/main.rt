@@ -12,7 +12,7 @@ use std::thread::Threads;
 use std::time::Clock;
 use std::{env, thread};
 use wb_arrays::{Crew, Mover};
-use wb_command::{Asked, CommandErr, FilePath, Place, Stay, Wanted, command_of};
+use wb_command::{Asked, CommandErr, FilePath, Misfit, Place, Stay, Wanted, command_of};
 use wb_company::Company;
 use wb_lines::{Input, Output};
 use wb_program::{Ports, do_asked};
@@ -44,7 +44,7 @@ enum Why {
     /// The words of the command line are none, as the reader of words tells it.
     Words(String),
     /// They are options that don't go together, or one is missing.
-    Together,
+    Together(Misfit),
     /// The port could not be had, in the system's words.
     Port(io::Error),
     /// The socket could not be had, in the system's words.
@@ -132,6 +132,14 @@ fn tell_refused(rt: &HostRuntime, reason: Reason) -> io::Result<()> {
             "workbook: it begins and ends as a text of the program, but is not as the program prints one"
         ),
         Reason::NotOurs => eprintln!(rt; "workbook: it does not begin with 'chapel-workbook'"),
+        Reason::NotGranted(place) => tell_line(rt, place),
+        Reason::LineNotGranted(place) => {
+            let line = place.saturating_add(1);
+            eprintln!(rt; "workbook: line {line} of the history is not granted")
+        }
+        Reason::OtherHeading => eprintln!(rt;
+            "workbook: its edits are granted, and the lines above them are not what these edits make"
+        ),
     }
 }
 
@@ -150,12 +158,28 @@ fn tell_of_words(rt: &HostRuntime, why: Option<Why>) -> io::Result<()> {
             tell_mistake(rt, mistake.as_str())?;
             eprintln!(rt; "; for more, try '--help'")
         }
-        Some(Why::Together) => {
-            eprintln!(rt;
-                "workbook: these options don't go together, or one is missing; for more, try '--help'"
-            )
+        Some(Why::Together(misfit)) => {
+            let which = words_of(misfit);
+            eprintln!(rt; "workbook: {which}; for more, try '--help'")
         }
         _ => Ok(()),
+    }
+}
+
+// Which options don't go together, or which one is missing.
+fn words_of(misfit: Misfit) -> &'static str {
+    match misfit {
+        Misfit::StayAndResume => "'--stay' and '--resume' don't go together",
+        Misfit::PortAndSocket => "'--port' and '--socket' don't go together",
+        Misfit::JournalAndResume => {
+            "'--journal' and '--resume' don't go together at a desk: 'workbook run' begins a journal so"
+        }
+        Misfit::NoPlace => "'--port' or '--socket' is missing",
+        Misfit::NoPort => "'--port' is missing",
+        Misfit::Socket => "'--socket' goes with '--stay' alone",
+        Misfit::Idle => "'--idle' goes with '--stay' alone",
+        Misfit::Quiet => "'--quiet' goes with '--stay' alone",
+        Misfit::Other => "these options don't go together, or one is missing",
     }
 }
 
@@ -195,6 +219,9 @@ fn tell_of_file(rt: &HostRuntime, fault: FileFault, cause: Option<io::Error>) ->
         FileFault::NotGranted(_) => eprint!(rt; "workbook: the journal is refused")?,
         FileFault::Failed => eprint!(rt; "workbook: the journal failed")?,
         FileFault::NoMemory => eprint!(rt; "workbook: no memory for the journal")?,
+        FileFault::Missing => {
+            eprint!(rt; "workbook: there is no such journal, and compact makes none")?
+        }
     }
     match cause {
         Some(cause) => eprintln!(rt; ": {cause}"),
@@ -233,9 +260,9 @@ fn by_words<
             status: BAD_COMMAND_LINE,
             why: format!(in alloc; "{error}").ok().map(Why::Words),
         }),
-        Err(CommandErr::NothingMeant) => Ok(Ending {
+        Err(CommandErr::NothingMeant(misfit)) => Ok(Ending {
             status: BAD_COMMAND_LINE,
-            why: Some(Why::Together),
+            why: Some(Why::Together(misfit)),
         }),
         Err(CommandErr::NoMemory) => Ok(Ending::of(NO_MEMORY)),
     }

@@ -110,6 +110,16 @@ def restored(held):
     return machine
 
 
+def first_refused(held):
+    """The first of a file's changes, from 0, that isn't granted, or None."""
+    machine = Machine()
+    for place, line in enumerate(changes_of(held)):
+        machine = led(machine, line)
+        if machine is None:
+            return place
+    return None
+
+
 def changes_made(request, reply):
     """The lines that keep what a request did: none for a question, nor for a refusal."""
     if "edit" in reply:
@@ -121,9 +131,11 @@ def changes_made(request, reply):
 
 
 class Journal:
-    """An open journal file, locked until it is closed. `held` is what it held."""
+    """An open journal file, locked until it is closed. `held` is what it held. One that is not there is made, or refused."""
 
-    def __init__(self, path):
+    def __init__(self, path, makes=True):
+        if not makes and not os.path.exists(path):
+            raise NotOpened("there is no such journal, and compact makes none")
         try:
             self.file = opened(path)
             self.path = os.path.realpath(path)

@@ -18,7 +18,7 @@ returns-in-Ok-clause-asked c =
     passed_on CommandErr c.program.result command (λ k. app_of k ≡ program) c.program.ensures c.in_ok-command.ensures.cases in
     let none = faults_of command built words (Ok c.in-Ok.matches) c.in-Ok.ensures.kinds in
     let found = found_by command built words c.in-Ok.matches c.in-Ok.ensures.matches in
-    rw c.ok_or.ensures.value (answer_asked words c.read_off.result c.in-Ok.matches none found c.read_off.ensures)
+    rw c.ok_or.ensures.value (answer_asked words c.read_off.result c.in-Ok.matches none found c.read_off.ensures c.misfit_in.result)
 
 pub returns-in-Ok-clause-refused : goal.returns-in-Ok-clause-refused
 returns-in-Ok-clause-refused c =
@@ -28,7 +28,7 @@ returns-in-Ok-clause-refused c =
     passed_on CommandErr c.program.result command (λ k. app_of k ≡ program) c.program.ensures c.in_ok-command.ensures.cases in
     let none = faults_of command built words (Ok c.in-Ok.matches) c.in-Ok.ensures.kinds in
     let found = found_by command built words c.in-Ok.matches c.in-Ok.ensures.matches in
-    rw c.ok_or.ensures.value (answer_refused words c.read_off.result c.in-Ok.matches none found c.read_off.ensures)
+    rw c.ok_or.ensures.value (answer_refused words c.read_off.result c.in-Ok.matches none found c.read_off.ensures c.misfit_in.result c.misfit_in.ensures)
 
 pub returns-in-Err-clause-refused : goal.returns-in-Err-clause-refused
 returns-in-Err-clause-refused c =

@@ -12,4 +12,4 @@ mod sources;
 pub use crate::encoding::edits::{edit_text, edit_value, line_of};
 pub use crate::encoding::literals::index_value;
 pub use crate::encoding::objects::{index_of_domain, of_domain};
-pub use crate::encoding::printed::{print_edits_from, print_history};
+pub use crate::encoding::printed::{objects_in, print_edits_from, print_history, push_edit};

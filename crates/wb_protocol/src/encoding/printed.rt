@@ -13,8 +13,8 @@ use wb_history::History;
 use wb_range::NoMemory;
 use wb_reading::print_book;
 
-// The lines of objects within the text of a workbook.
-fn objects_in(text: &str) -> Option<&str>
+/// The lines of objects within the text of a workbook.
+pub fn objects_in(text: &str) -> Option<&str>
     ensures { (objects : List ℕ) → text.now ≡ codes "chapel-workbook 1\n" ++ (objects ++ codes "end\n") → option_map (λ x. x.now) result ≡ Some objects }
 {
     match text.strip_prefix("chapel-workbook 1\n") {
@@ -43,8 +43,13 @@ fn mark(in_force: bool) -> &'static str
     if in_force { "+ " } else { "- " }
 }
 
-// The line of an edit.
-fn push_edit(alloc: Global, out: &mut String, edit: &Edit, in_force: bool) -> Result<(), NoMemory>
+/// The line of an edit, with its mark, put at the end of a text.
+pub fn push_edit(
+    alloc: Global,
+    out: &mut String,
+    edit: &Edit,
+    in_force: bool,
+) -> Result<(), NoMemory>
     ensures line { OnOk result (string_bytes out.new ≡ string_bytes out.old ++ edit_line (one_of edit.now in_force)) }
     ensures json { OnOk result (IsJson edit.now) }
 {

@@ -32,8 +32,8 @@ fn last_line(bytes: &[u8]) -> Option<(&[u8], &[u8])>
     }
 }
 
-// The mark of a line, and what follows it.
-fn marked_at(line: &[u8]) -> Option<(bool, &[u8])>
+/// The mark of an edit's line, and what follows it; other lines have none.
+pub fn marked_at(line: &[u8]) -> Option<(bool, &[u8])>
     ensures { option_map (λ x. (x.0, x.1.now)) result ≡ marked_at line.now }
 {
     if let Some(rest) = after(b"+ ", line) {
@@ -43,8 +43,8 @@ fn marked_at(line: &[u8]) -> Option<(bool, &[u8])>
     Some((false, rest))
 }
 
-// The edit that a line asks for.
-fn edit_of(alloc: Global, line: &[u8]) -> Result<Option<Edit>, NoMemory>
+/// The edit that a line asks for; none where it asks for something else, or is not read.
+pub fn edit_of(alloc: Global, line: &[u8]) -> Result<Option<Edit>, NoMemory>
     ensures read { IfOk result (λ r. (e : command.Edit) → request line.now ≡ Ok (Change e) → r ≡ Some e) }
     ensures asked { IfOk result (λ r. IfSome r (λ e. request line.now ≡ Ok (Change e))) }
 {

@@ -8,5 +8,6 @@ mod lines;
 mod printed;
 mod reading;
 
+pub use crate::histories::lines::{edit_of, marked_at};
 pub use crate::histories::printed::print_history;
 pub use crate::histories::reading::{HistoryErr, read_history};

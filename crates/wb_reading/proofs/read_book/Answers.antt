@@ -1,5 +1,5 @@
-use Rattle.std.proofs.Common.{◌≡◌, Option, Some, None, option_map, sym, ap, ◌∙◌}
-use Rattle.wb_cells.specs.Cells.{Cells, Contents}
+use Rattle.std.proofs.Common.{◌≡◌, Some, None, option_map, sym, ap, ◌∙◌}
+use Rattle.wb_cells.specs.Cells.{Contents}
 use Rattle.wb_text.specs.Texts.Books.{book_in}
 use Rattle.wb_text.proofs.Texts.Back.{book_back}
 use Rattle.wb_reading.proofs.read_book.Goals as goal

@@ -1,9 +1,15 @@
 //! The elements of one array.
 
-ghost use Rattle.std.specs.Prelude.{◌≡◌, true, map, IfOk};
+ghost use Rattle.std.specs.BTreeMap.{is_at};
+ghost use Rattle.std.specs.Prelude.{◌≡◌, true, length, map, IfOk, IfSome};
 ghost use Rattle.std.specs.List.{list_all, zip, AllByRecursion};
+ghost use Rattle.std.specs.Map.{lookup};
+ghost use Rattle.wb_cells.specs.declared.values.index.Index.{Index as any_index};
+ghost use Rattle.wb_cells.specs.Cells.{index_cmp};
+ghost use Rattle.wb_cells.specs.Shapes.{indices};
 ghost use Rattle.wb_book.specs.Piecewise.Changed.{all_set};
 ghost use Rattle.wb_text.specs.FromLines.Found.{Finds};
+ghost use Rattle.wb_text.specs.FromLines.Inserted.{last_of};
 ghost use Rattle.wb_text.specs.FromLines.Made.{IsMade};
 ghost use Rattle.wb_text.specs.FromLines.Told.{is_sound};
 ghost use Rattle.wb_reading.specs.Laid.{rectangle_lies, lies_told, IsColumn};
@@ -12,7 +18,7 @@ ghost use Rattle.wb_text.specs.Said.{first_line_of, line_of};
 use std::alloc::Global;
 use std::collections::BTreeMap;
 use wb_book::Elements;
-use wb_cells::{AnyIndex, AnyLayout, KeyType, Name};
+use wb_cells::{AnyIndex, AnyLayout, AnyRect, KeyType, Name, RectangleNumbers, Row};
 use wb_range::NoMemory;
 use wb_text::{ObjectLine, find, indices_of};
 
@@ -65,8 +71,57 @@ fn changes_of(
     Ok(changes)
 }
 
-/// The array over the domain of a name that has these elements, in the order of the domain's indices.
-pub(crate) fn column(
+// The elements that have these numbers at the indices of a rectangle, in its order, by a mapping; `None` where that can't be done
+// in a short way.
+fn numbered(
+    alloc: Global,
+    array: &Name,
+    ranges: &AnyRect,
+    mapping: &AnyLayout,
+    numbers: &[i64],
+) -> Result<Option<Elements>, NoMemory>
+    ensures elements { IfOk result (λ o. IfSome o (λ e. (i : any_index) →
+        lookup (is_at (index_cmp i)) e.0 ≡ last_of index_cmp (zip (indices ranges.now) numbers.now) i)) }
+    ensures lies { IfOk result (λ o. IfSome o (λ e. e.1 ≡ (mapping.now, length ranges.now))) }
+{
+    let copied = Vec::from_slice(alloc, numbers)?;
+    let block = RectangleNumbers::new(Row::Elements(*array), *ranges, copied);
+    match Elements::of_block(alloc, &block, mapping, ranges.rank()) {
+        Ok(Some(made)) => {
+            // For the proof: the elements ascend.
+            let _ascending = made.len();
+            Ok(Some(made))
+        }
+        Ok(None) => Ok(None),
+        Err(why) => Err(why),
+    }
+}
+
+// The array over the rectangular domain of a name that has these elements, without a list of the indices; `None` over another
+// domain, and where that can't be done.
+fn rectangle_column(
+    alloc: Global,
+    lines: &[ObjectLine],
+    places: &BTreeMap<Name, usize>,
+    domain: &Name,
+    numbers: &[i64],
+) -> Result<Option<Elements>, NoMemory>
+    requires { Finds places.now (map line_of lines.now) (map line_of lines.now) }
+    ensures { IfOk result (λ o. IfSome o (λ e. IsColumn (map line_of lines.now) domain.now numbers.now e)) }
+{
+    match find(lines, places, domain) {
+        Some(ObjectLine::Rectangular(name, ranges, mapping)) => {
+            numbered(alloc, name, ranges, mapping, numbers)
+        }
+        Some(ObjectLine::Sparse(_, _, _)) => Ok(None),
+        Some(ObjectLine::Associative(_, _, _)) => Ok(None),
+        Some(ObjectLine::Array(_, _, _, _)) => Ok(None),
+        None => Ok(None),
+    }
+}
+
+// The array over the domain of a name that has these elements, each set at its index.
+fn listed_column(
     alloc: Global,
     lines: &[ObjectLine],
     places: &BTreeMap<Name, usize>,
@@ -85,4 +140,25 @@ pub(crate) fn column(
     let (layout, rank) = lies(lines, places, domain);
     let none: Vec<(AnyIndex, i64)> = Vec::new(alloc);
     Elements::made(alloc, none.as_slice(), changes.as_slice(), &layout, rank)
+}
+
+/// The array over the domain of a name that has these elements, in the order of the domain's indices. Over a rectangular domain
+/// no index is listed.
+pub(crate) fn column(
+    alloc: Global,
+    lines: &[ObjectLine],
+    places: &BTreeMap<Name, usize>,
+    domain: &Name,
+    numbers: &[i64],
+) -> Result<Elements, NoMemory>
+    requires finds { Finds places.now (map line_of lines.now) (map line_of lines.now) }
+    requires sound { list_all (is_sound (map line_of lines.now)) (map line_of lines.now) ≡ true }
+    requires are_made { AllByRecursion IsMade (map line_of lines.now) }
+    ensures { IfOk result (λ e. IsColumn (map line_of lines.now) domain.now numbers.now e) }
+{
+    match rectangle_column(alloc, lines, places, domain, numbers) {
+        Ok(Some(made)) => Ok(made),
+        Ok(None) => listed_column(alloc, lines, places, domain, numbers),
+        Err(why) => Err(why),
+    }
 }

@@ -10,7 +10,7 @@ use std::sync::ledger::Blank;
 use std::test::Fail;
 use std::thread::Threads;
 use wb_arrays::{Crew, Mover};
-use wb_desk::{Cause, Desk, DeskErr, Entry, Opening, Pass, Record, settle};
+use wb_desk::{Cause, Desk, DeskErr, Opening, Pass, Records, settle};
 use wb_protocol::{Reply, Request, read_request, reply_text};
 
 const NEW_SET: &str = "{\"op\":\"assoc\",\"d\":\"N\",\"of\":\"int\"}";
@@ -97,20 +97,27 @@ fn renumbered<L: Opening>(pass: Pass<L>, seat: usize) -> Pass<L> {
     Pass::of_parts(seat, own, share)
 }
 
-// The pass with another first request.
-fn replaced<L: Opening>(alloc: Global, pass: Pass<L>) -> Pass<L> {
-    let (seat, mut own, share) = pass.into_parts();
-    let other = Entry {
-        seat,
-        request: Request::Print,
-        reply: Reply::Edited(1, 1),
-    };
-    if let Some(entry) = own.get_mut(0) {
-        if let Ok(other) = Record::whole(alloc, other) {
-            *entry = other;
+// The list with another first request.
+fn with_first_replaced(alloc: Global, own: &Records, seat: usize) -> Option<Records> {
+    let mut list = Records::new(alloc, seat);
+    for place in 0..own.len() {
+        let mut entry = own.get(place)?.copy(alloc).ok()?;
+        entry.seat = seat;
+        if place == 0 {
+            entry.request = Request::Print;
         }
+        list.push(alloc, entry).ok()?;
     }
-    Pass::of_parts(seat, own, share)
+    Some(list)
+}
+
+// The pass with another first request.
+pub fn replaced<L: Opening>(alloc: Global, pass: Pass<L>) -> Pass<L> {
+    let (seat, own, share) = pass.into_parts();
+    match with_first_replaced(alloc, &own, seat) {
+        Some(list) if list.len() == own.len() => Pass::of_parts(seat, list, share),
+        _ => Pass::of_parts(seat, own, share),
+    }
 }
 
 // Does one thing with a pass: the pass then, or nothing where a reply was another one.

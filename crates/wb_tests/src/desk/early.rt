@@ -3,15 +3,14 @@
 ghost use Rattle.std.specs.Prelude.{◌≡◌, true};
 ghost use Rattle.wb_desk.specs.Openings.{nothing_done};
 
-use crate::desk::days::ask;
+use crate::desk::days::{ask, replaced};
 use std::alloc::Global;
 use std::marker::Brand;
 use std::sync::Wait;
 use std::sync::ledger::Blank;
 use std::test::Fail;
 use wb_arrays::{Crew, Mover};
-use wb_desk::{Cause, Desk, Entry, Opening, Pass, Record, settle};
-use wb_protocol::{Reply, Request};
+use wb_desk::{Cause, Desk, Opening, Pass, settle};
 
 const NEW_SET: &str = "{\"op\":\"assoc\",\"d\":\"N\",\"of\":\"int\"}";
 
@@ -20,21 +19,6 @@ const SIZE_OF_SET: &str = "{\"op\":\"size\",\"d\":\"N\"}";
 // How many entries a desk of two seats kept and how many were settled early, when it has settled; or the first cause why it
 // has not.
 type Counts = Result<(usize, u64), Cause>;
-
-// The pass with another first request.
-fn with_another_request<L: Opening>(alloc: Global, pass: Pass<L>) -> Result<Pass<L>, Fail> {
-    let (seat, mut own, share) = pass.into_parts();
-    let other = Entry {
-        seat,
-        request: Request::Print,
-        reply: Reply::Edited(1, 1),
-    };
-    let other = Record::whole(alloc, other)?;
-    if let Some(entry) = own.get_mut(0) {
-        *entry = other;
-    }
-    Ok(Pass::of_parts(seat, own, share))
-}
 
 // Settles the seat of a pass early, which has so many entries.
 fn settle_so_many<L: Opening, R: Wait>(
@@ -78,7 +62,7 @@ fn day_of_two<L: Opening, R: Wait, M: Mover>(
     settle_so_many(rt, &desk, &mut first, 2)?;
     let _ = ask(rt, alloc, &desk, &mut first, SIZE_OF_SET, mover);
     if changed {
-        second = with_another_request(alloc, second)?;
+        second = replaced(alloc, second);
         match desk.settle_seat(rt, &mut second) {
             Err(why) if why.place == 0 && second.own().len() == 1 => {}
             _ => return Err("a seat that differs")?,

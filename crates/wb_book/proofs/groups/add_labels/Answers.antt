@@ -9,7 +9,7 @@ use Rattle.wb_book.proofs.groups.add_labels.Goals as goal
 pub add_change-requires : goal.add_change-requires
 add_change-requires c =
     let l = c.args.labels.now in
-    one_passes is_numeric (labelled_changes l.0 l.1) c.loop-at.at c.change.result (omega (arith, c.loop-at-test.true, c.len.ensures)) c.change.ensures
+    one_passes is_numeric (labelled_changes l.0 l.1) c.loop-at.at c.change.result (omega (arith, c.loop-at-test.true, c.len-at-end.ensures)) c.change.ensures
     c.requires
 
 pub loop-at-preserved : goal.loop-at-preserved
@@ -19,7 +19,7 @@ loop-at-preserved c =
     let k = c.loop-at.at in
     let x = c.change.result in
     let old = c.loop-at.invariant in
-    let more = one_more xs k x (omega (arith, c.loop-at-test.true, c.len.ensures)) c.change.ensures in
+    let more = one_more xs k x (omega (arith, c.loop-at-test.true, c.len-at-end.ensures)) c.change.ensures in
     record {
       lead = λ before lead b. subst (λ (ys : Changes). LeadTo ys b (changes_in c.add_change.new.groups.entries b))
           (append_assoc before (take k xs) (x ∷ []) ∙ ap (λ ys. before ++ ys) (sym more))
@@ -38,4 +38,4 @@ returns-clause-lead c = λ before lead b.
     let l = c.args.labels.now in
     let xs = labelled_changes l.0 l.1 in
     subst (λ (ys : Changes). LeadTo (before ++ ys) b (changes_in c.loop-at.groups.entries b))
-    (take_all c.loop-at.at xs (omega (arith, c.loop-at-test.false, c.len.ensures))) (c.loop-at.invariant.lead before lead b)
+    (take_all c.loop-at.at xs (omega (arith, c.loop-at-test.false, c.len-at-end.ensures))) (c.loop-at.invariant.lead before lead b)

@@ -14,7 +14,7 @@ set_one-requires c =
     let x = c.change.result in
     same_test (element_in c.args.arrays.now.entries) (element_in c.loop-at.arrays.entries) x.cell x.value c.loop-at.invariant.there
     ∙ one_passes (is_set (element_in c.args.arrays.now.entries)) (labelled_changes l.0 l.1) c.loop-at.at x
-    (omega (arith, c.loop-at-test.true, c.len.ensures)) c.change.ensures c.requires
+    (omega (arith, c.loop-at-test.true, c.len-at-end.ensures)) c.change.ensures c.requires
 
 pub loop-at-preserved : goal.loop-at-preserved
 loop-at-preserved c =
@@ -24,7 +24,7 @@ loop-at-preserved c =
     let old = c.loop-at.invariant in
     record {
       agree = λ s agree. subst (λ (t : Cells). Agree c.set_one.new.arrays.entries t)
-          (sym (apply_one_more xs k c.change.result s (omega (arith, c.loop-at-test.true, c.len.ensures)) c.change.ensures))
+          (sym (apply_one_more xs k c.change.result s (omega (arith, c.loop-at-test.true, c.len-at-end.ensures)) c.change.ensures))
           (c.set_one.ensures.agree (apply (take k xs) s) (old.agree s agree));
       names = c.set_one.ensures.names ∙ old.names;
       lie = λ b. c.set_one.ensures.lie b ∙ old.lie b;

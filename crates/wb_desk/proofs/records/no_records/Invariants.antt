@@ -3,4 +3,4 @@ use Rattle.wb_desk.specs.Courses.{empty_lists}
 use Rattle.wb_desk.proofs.records.no_records.Given as goal
 
 abbrev pub invariant-loop-seat : goal.invariant-loop-seat
-invariant-loop-seat l = l.lists.items ≡ empty_lists l._seat
+invariant-loop-seat l = l.lists.items ≡ empty_lists l.seat

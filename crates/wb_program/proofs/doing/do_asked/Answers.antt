@@ -1,13 +1,12 @@
 use Rattle.std.proofs.Common.{[], false, refl, rules, subst, sym, true}
-use Rattle.wb_sessions.specs.Compacting.{Compacts}
 use Rattle.wb_program.specs.Doing.{Does}
 use Rattle.wb_sessions.specs.Keeping.{RunsKept}
 use Rattle.wb_sessions.specs.Resuming.{left_in}
 use Rattle.wb_program.proofs.Finishing.{desk_fails, desk_finishes, resumed_desk_fails, resumed_desk_finishes}
 use Rattle.wb_program.proofs.Hosting.{history_hosted, hosted, resumed, upgraded}
 use Rattle.wb_program.proofs.KeptHosting.{wrote}
-use Rattle.wb_program.proofs.Telling.{run_tells, serve_tells}
-use Rattle.wb_program.proofs.Used.{began, keeps_anew, keeps_begun, keeps_run, made_anew, nothing_consumed, ran, read_and_wrote}
+use Rattle.wb_program.proofs.Telling.{kept_tells, run_tells, serve_tells}
+use Rattle.wb_program.proofs.Used.{began, keeps_anew, keeps_begun, keeps_run, nothing_consumed, ran, read_and_wrote, renewed}
 use Rattle.wb_program.proofs.doing.do_asked.Goals as goal
 
 pub returns-else-resume-2-clause-does : goal.returns-else-resume-2-clause-does
@@ -161,8 +160,7 @@ returns-in-Compact-clause-keeps g c =
 
 pub returns-in-Compact-clause-does : goal.returns-in-Compact-clause-does
 returns-in-Compact-clause-does g c =
-    let told = (read_and_wrote g.D.Device g.J.OpensFiles (Compacts g.D.Device) (made_anew g.D.Device) c.as_str-in-Compact.result.now c.compact_at.result c.compact_at.new.files _
-    c.compact_at.ensures.keeps).1 in (
+    let told = (renewed g.D.Device g.J.OpensFiles c.as_str-in-Compact.result.now c.compact_at.result c.compact_at.new.files _ c.compact_at.ensures.keeps).1 in (
       [],
       nothing_consumed (left_in g.S.Source.remaining c.args.reader.now),
       (
@@ -176,6 +174,15 @@ returns-in-Compact-clause-does g c =
 pub returns-then-resume-clause-why : goal.returns-then-resume-clause-why
 returns-then-resume-clause-why g c one =
     let asked = c.in-Run in run_tells c.args.asked asked.workers asked.resume true _ _ _ asked.is c.if-resume.true (c.resume_with.ensures.why one)
+
+pub returns-then-resume-2-clause-why : goal.returns-then-resume-2-clause-why
+returns-then-resume-2-clause-why g c one =
+    let asked = c.in-RunKept in
+    kept_tells c.args.asked asked.journal asked.workers asked.resume true _ _ _ asked.is c.if-resume-2.true (c.run_resumed.ensures.why one)
+
+pub returns-else-resume-2-clause-why : goal.returns-else-resume-2-clause-why
+returns-else-resume-2-clause-why g c one =
+    let asked = c.in-RunKept in kept_tells c.args.asked asked.journal asked.workers asked.resume false _ _ _ asked.is c.if-resume-2.false tt
 
 pub returns-then-resume-3-clause-why : goal.returns-then-resume-3-clause-why
 returns-then-resume-3-clause-why g c one =

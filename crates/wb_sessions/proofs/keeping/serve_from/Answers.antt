@@ -11,7 +11,7 @@ returns-clause-serves g c =
       reads = served.read;
       writes = served.written;
       keeps = served.disk;
-      is_status = c.status_of_end.ensures;
+      is_status = c.status_of_end.ensures.status;
       is_fault = c.fault_of_end.ensures;
       is_file = refl;
     }

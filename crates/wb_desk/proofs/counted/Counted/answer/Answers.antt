@@ -9,7 +9,7 @@ pub returns-then-is_entered-clause-course : goal.returns-then-is_entered-clause-
 returns-then-is_entered-clause-course g c opening all tells =
     let s = c.answer-reply in
     subst (λ (h : Held). Tells opening (course_after all h.seat c.args.request s.result) s.new.self) c.pass.view_is
-    (tells_answered opening all c.args.self.now.journal c.pass.inside.seat c.pass.inside.own.items c.args.request s.result s.new.self
+    (tells_answered opening all c.args.self.now.journal c.pass.inside.seat c.pass.inside.own c.args.request s.result s.new.self
     s.ensures.strange s.ensures.answers tells)
 
 pub returns-then-is_entered-clause-left : goal.returns-then-is_entered-clause-left
@@ -31,7 +31,7 @@ pub returns-else-is_entered-clause-course : goal.returns-else-is_entered-clause-
 returns-else-is_entered-clause-course g c opening all tells =
     let s = c.answer-reply in
     subst (λ (h : Held). Tells opening (course_after all h.seat c.args.request s.result) s.new.self) c.pass.view_is
-    (tells_answered opening all c.args.self.now.journal c.pass.inside.seat c.pass.inside.own.items c.args.request s.result s.new.self
+    (tells_answered opening all c.args.self.now.journal c.pass.inside.seat c.pass.inside.own c.args.request s.result s.new.self
     s.ensures.strange s.ensures.answers tells)
 
 pub returns-else-is_entered-clause-left : goal.returns-else-is_entered-clause-left

@@ -13,7 +13,7 @@ use Rattle.wb_text.specs.FromLines.Told.{indices_told}
 use Rattle.wb_book.proofs.Seen.{both_ok}
 use Rattle.wb_text.specs.Said.{first_line_of, line_of}
 use Rattle.wb_reading.proofs.Columnwise.{column_set}
-use Rattle.wb_reading.proofs.workbook.columns.column.Goals as goal
+use Rattle.wb_reading.proofs.workbook.columns.listed_column.Goals as goal
 
 nothing_ascends : IsStrictlySortedBy index_cmp []
 unfolding IsStrictlySortedBy
