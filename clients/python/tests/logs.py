@@ -21,12 +21,13 @@ def has_redis() -> bool:
 
 
 class RedisServer:
-    """A redis-server of the tests' own, on 127.0.0.1, which keeps nothing on disk."""
+    """A redis-server of the tests' own, on 127.0.0.1, which keeps nothing on disk, or each change at once."""
 
-    def __init__(self) -> None:
+    def __init__(self, kept: bool = False) -> None:
+        keeping = ["--appendonly", "yes", "--appendfsync", "always"] if kept else ["--appendonly", "no"]
         self._folder = tempfile.TemporaryDirectory()
         for port in range(21000 + os.getpid() % 20000, 65000):
-            words = ["redis-server", "--port", str(port), "--bind", "127.0.0.1", "--save", "", "--appendonly", "no"]
+            words = ["redis-server", "--port", str(port), "--bind", "127.0.0.1", "--save", "", *keeping]
             self._process = subprocess.Popen(words, stdout=subprocess.DEVNULL, cwd=self._folder.name)
             self.url = f"redis://127.0.0.1:{port}"
             if self._is_there():

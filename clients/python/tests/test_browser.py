@@ -259,6 +259,27 @@ class Page(InABrowser):
         self.assertFalse(browser.js(f"{known}.includes(50)"))
         self.assertEqual(browser.faults, [])
 
+    def test_earlier_edits_are_shown_where_they_are_wanted(self):
+        server = Server(seats=2)
+        self.addCleanup(server.close)
+        other = server.connect()
+        A = other.array("A", other.domain("D", range(1, 3)))
+        with other.pipeline():
+            for i in range(700):
+                A[1] = i
+        browser = self.open(server.connect())
+        browser.until("document.querySelector('.edits li.earlier')?.innerText.includes('402 earlier edits')")
+        browser.click(".edits li.earlier button")
+        browser.until("document.querySelector('.edits li.earlier')?.innerText.includes('102 earlier edits')")
+        other.undo(702)
+        A[2] = 7  # what comes is seen as before
+        browser.until("document.querySelectorAll('.edits li').length === 601 && document.querySelector('.edits li').innerText.includes('A[2] = 7')")
+        browser.click(".edits li.earlier button")
+        browser.until("document.querySelectorAll('.edits li').length === 703 && !document.querySelector('.edits li.earlier')")
+        self.assertIn("D = {1..2}", browser.text(".edits li[data-k='1']"))
+        self.assertIn("taken back", browser.text(".edits li[data-k='702']"))
+        self.assertEqual(browser.faults, [])
+
     def test_a_cascade_is_put_back_upward(self):
         """Downward edit 5 would copy what stood in A[1] before edit 4."""
         book = Workbook.run(PROGRAM)
@@ -340,6 +361,30 @@ class Page(InABrowser):
         self.line(browser, "A[2] = 6", "undo 4")  # one's own undo is nothing to tell
         self.shows(browser, "A[2]", 0)
         self.assertEqual(browser.text("#notices"), "")
+        self.assertEqual(browser.faults, [])
+
+    def test_who_did_it_by_name(self):
+        """At a desk that stays the history and the notices tell who made an edit, and who took one back."""
+        desk = Workbook.serve(seats=2, stay=True, program=PROGRAM)
+        self.addCleanup(desk.close)
+        browser = self.open(desk.connect(name="Ada"))
+        other = desk.connect(name="Ben\u202e")
+        self.line(browser, "D = {1..4}", "A over D", "A[1] = 5")
+        browser.until("document.getElementById('where').innerText.endsWith(' with Ben\ufffd')")
+        other.undo(3)
+        other["A"][2] = 6
+        browser.until("document.getElementById('notices').innerText.includes('Ben\ufffd took back your edit 3 (A[1] = 5)')")
+        browser.until("document.querySelector('.edits li[data-k=\"4\"]')?.innerText.includes('Ben\ufffd')")
+        self.assertIn("me · 1 cell · taken back", browser.text(".edits li[data-k='3']"))
+        browser.click("#notices button")  # put it back
+        self.shows(browser, "A[1]", 5)
+        self.line(browser, "undo 2")
+        self.says(browser, "Blocked by edit 3")
+        other.undo(3)
+        self.line(browser, "undo 2")
+        self.says(browser, "Blocked by edit 4 of Ben\ufffd (A[2] = 6)")
+        self.line(browser, "undo 3")
+        self.says(browser, "Ben\ufffd took it back")
         self.assertEqual(browser.faults, [])
 
     def test_what_others_do_appears(self):

@@ -213,6 +213,20 @@ class Connections(unittest.TestCase):
         with self.assertRaisesRegex(StrangeReply, "HTTP/1.1 400"):
             Workbook.connect("127.0.0.1", port)
 
+    def test_a_connection_that_was_idle(self):
+        """Where nothing was sent for long, it is told that a desk may end such a connection."""
+
+        def talk(connection: socket.socket) -> None:
+            connection.recv(100)
+            connection.sendall(b'{"error":"E01","name":"bad-request"}\n')
+
+        with Workbook.connect("127.0.0.1", self.server(talk)) as book:
+            with self.assertRaisesRegex(SessionEnded, "has closed the connection$"):
+                book.array("A", "D")
+            book.exchange.channel._sent_at -= 300
+            with self.assertRaisesRegex(SessionEnded, "nothing was sent for 30. seconds, and a desk may end a connection that is idle"):
+                book.array("A", "D")
+
     def test_a_connection_that_is_cut(self):
         def talk(connection: socket.socket) -> None:
             connection.recv(100)

@@ -3,6 +3,8 @@
 import csv
 import io
 import json
+import os
+import tempfile
 import unittest
 from typing import Any
 
@@ -297,6 +299,66 @@ class Grid(InABrowser):
         browser.click(cell("A[41, 1]"))
         self.pastes(browser, "\n".join(["1\t" * 99 + "2"] * 61))
         self.says(browser, "61 rows and 100 columns don't fit into A from [41, 1] on")
+        self.assertEqual(browser.faults, [])
+
+    def test_a_table_that_is_pasted_where_no_cell_is_chosen(self):
+        """It becomes an array of its own, with titles, under the name that is typed."""
+        browser = self.open(Workbook.run(PROGRAM))
+        browser.do("Browser.grantPermissions", permissions=["clipboardReadWrite", "clipboardSanitizedWrite"])
+        self.assertIn("Paste a table of a spreadsheet", browser.text("#objects"))
+        browser.click(".empty")
+        self.pastes(browser, "who\tMon\tTue\nAda\t8\t7\nBen\t6\t5.5\n")
+        browser.until("document.activeElement.value === 'Table1'")
+        self.assertIn("3 lines pasted, as a table called", browser.text("#newtable"))
+        browser.type("1st")
+        browser.key("Enter")
+        self.says(browser, "a name is a letter, then letters, digits and _")
+        browser.js("document.activeElement.value = ''")
+        browser.type("Hours")
+        browser.key("Enter")
+        self.says(browser, "row 3, column 3: '5.5' is no whole number")
+        self.assertFalse(browser.js("document.getElementById('newtable').hidden"))
+        browser.key("Escape")
+        browser.until("document.getElementById('newtable').hidden")
+        self.assertEqual(browser.js("document.querySelectorAll('.edits li[data-k]').length"), 0)
+        browser.js("document.activeElement.blur()")
+        self.pastes(browser, "who\tMon\tTue\nAda\t8\t7\nBen\t6\t5\n")
+        browser.until("document.activeElement.value === 'Table1'")
+        browser.type("Hours")
+        browser.key("Enter")
+        self.shows(browser, "Hours[2, 2]", 5)
+        heads = "[...document.querySelectorAll('table[aria-label=Hours] th')].map(x => x.innerText).join()"
+        self.assertEqual(browser.js(heads), ",Mon,Tue,Ada,Ben")
+        self.assertTrue(browser.js("document.getElementById('newtable').hidden"))
+        self.assertEqual(browser.faults, [])
+
+    def test_a_file_is_opened(self):
+        """A file of a spreadsheet becomes a table that is called as the file; once more, its numbers become those of the table."""
+        browser = self.open(Workbook.run(PROGRAM))
+        with tempfile.TemporaryDirectory() as place:
+            path = os.path.join(place, "my sales.csv")
+            for number in (3, 4):
+                with open(path, "w", encoding="utf-8") as file:
+                    file.write(f"1,2\n{number},4\n")
+                root = browser.do("DOM.getDocument")["root"]["nodeId"]
+                node = browser.do("DOM.querySelector", nodeId=root, selector="#file")["nodeId"]
+                browser.do("DOM.setFileInputFiles", nodeId=node, files=[path])
+                browser.until("document.activeElement.value === 'mysales'")
+                self.assertIn("2 lines of my sales.csv", browser.text("#newtable"))
+                browser.key("Enter")
+                self.shows(browser, "mysales[2, 1]", number)
+        self.assertEqual(browser.js("document.querySelectorAll('.edits li[data-k]').length"), 4)
+        self.assertEqual(browser.faults, [])
+
+    def test_headings_stay_in_sight(self):
+        browser = self.grid(range(1, 65), range(1, 41))
+        top = "document.querySelector('table tr:nth-child(1) th:nth-child(3)').getBoundingClientRect().top"
+        left = "document.querySelector('table tr:nth-child(60) th').getBoundingClientRect().left"
+        before = (browser.js(top), browser.js(left))
+        browser.js("document.querySelector('.scroll').scrollTo(500, 500)")
+        self.assertGreater(browser.js("document.querySelector('.scroll').scrollTop"), 100)
+        for now, then in zip((browser.js(top), browser.js(left)), before):
+            self.assertAlmostEqual(now, then, delta=1)
         self.assertEqual(browser.faults, [])
 
     def test_a_large_array_has_parts(self):

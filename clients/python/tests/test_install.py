@@ -104,8 +104,8 @@ class TestInstall(Scratch):
         self.install()
         self.assertEqual(self.run_there("workbook", "run", text=REQUESTS), REPLIES)
         self.assertIn("edit 1, 3 cells", self.run_there("workbook-session", "--file", "-", text="D = {1..3}\n"))
-        for name in ("workbook-page", "workbook-worker"):
-            self.assertTrue(self.run_there(name, "--help").startswith("usage: "), name)
+        for name in ("workbook-session", "workbook-page", "workbook-worker"):
+            self.assertTrue(self.run_there(name, "--help").startswith(f"usage: {name} [-h]"), name)
 
     def test_the_page_is_served_from_there(self) -> None:
         """With its style and its scripts."""

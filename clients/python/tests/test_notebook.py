@@ -62,7 +62,7 @@ class Notebook(unittest.TestCase):
                       lambda: A.shown(3), lambda: A.shown(0), lambda: A.shown(-10), lambda: A.shown(10**19), lambda: A.shown(True)):
             with self.assertRaises(ValueError):
                 wrong()
-        self.assertEqual(self.wb.labels, {("A", "columns"): "Row", ("B", "rows"): "Row"})
+        self.assertEqual(self.wb.labels, {("A", "rows"): None, ("A", "columns"): "Row", ("B", "rows"): "Row"})
         self.assertEqual((self.wb.counts()[0], list(A)), (counts[0] + 2, [150, 5, -275, 0]))  # but for E and B nothing changed
 
     def test_what_is_large_is_cut(self):

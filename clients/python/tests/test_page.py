@@ -213,7 +213,10 @@ class Page(unittest.TestCase):
         book = Workbook.run(PROGRAM)
         book.from_csv("Hours", io.StringIO("who,Mon,Tue\nAda,8,8\nEmmy,4,0\n"))
         self.open(book)
-        (array,) = [a for a in self.ask("/state")[1]["arrays"] if a["name"] == "Hours"]
+        book.array("Zero", "HoursDomain")
+        arrays = self.ask("/state")[1]["arrays"]
+        self.assertEqual([a["name"] for a in arrays], ["Hours", "Zero", "HoursColumn", "HoursRow"])  # what is titles alone stands last
+        (array,) = [a for a in arrays if a["name"] == "Hours"]
         self.assertEqual((array["down"], array["across"]), ({"1": "Ada", "2": "Emmy"}, {"1": "Mon", "2": "Tue"}))
 
     def test_a_table_that_is_pasted_is_one_edit(self):

@@ -8,9 +8,11 @@ import sys
 import tempfile
 import time
 import unittest
+from typing import Optional
+from unittest import mock
 
 from tests.support import HERE, LONG, PROGRAM
-from workbook_client import NoNames, NoProgram, NoSeat, NotOpened, NotResumed, SessionEnded, Workbook, compact
+from workbook_client import NoNames, NoProgram, NoSeat, NotOpened, NotResumed, SessionEnded, Workbook, channel, compact, terminal
 from workbook_client.language import Command, LanguageError, parse
 from workbook_client.session import Session
 from workbook_client.view import APART, View
@@ -63,6 +65,32 @@ class Desks(Files):
             self.assertEqual(self.seat(desk)["A"][1], 5)
             self.assertEqual(desk.settled(), "chapel-workbook 1\narray A over D [5, 0]\nrect D {1..2} none\nend\n")
 
+    def test_a_desk_on_a_socket(self):
+        """The library, a session and a page take a seat by the path of its socket, and take another when it is there again."""
+        path = os.path.join(self.place, "plan.socket")
+        with Workbook.serve(seats=2, journal=self.path, stay=True, socket=path, program=PROGRAM) as desk:
+            self.assertEqual((desk.address, desk.port), (path, None))
+            self.assertEqual(desk.place(), f"{path}, 2 seats: each change is kept in {self.path}, before it is told")
+            ben = desk.connect(name="Ben")
+            ben.array("A", ben.domain("D", range(1, 3)))[1] = 5
+            done = subprocess.run(
+                [sys.executable, "-m", "workbook_client", "--connect", path, "--name", "Eva"], input="A[2] = A[1] + 1\nhistory 4\n",
+                capture_output=True, text=True, cwd=PACKAGE, timeout=LONG,
+            )
+            self.assertEqual((done.returncode, done.stderr), (0, ""))
+            self.assertIn("A[2] = A[1] + 1", done.stdout)
+            self.assertEqual((list(ben["A"]), ben.where, ben.history()[3].by), ([5, 6], path, "Eva"))
+        with Workbook.serve(seats=1, journal=self.path, stay=True, socket=path, program=PROGRAM) as desk:
+            self.assertEqual((ben.again(), list(ben["A"])), ([], [5, 6]))
+            with self.assertRaisesRegex(SessionEnded, "the desk has ended with status 3 .*the socket was not opened: Address already in use"):
+                Workbook.serve(stay=True, socket=path, program=PROGRAM)
+            ben.close()
+            self.assertIn("array A over D [5, 6]", desk.settled())
+        self.assertFalse(os.path.exists(path))
+        for words in ({"socket": path}, {"socket": path, "stay": True, "port": 7000}):
+            with self.assertRaisesRegex(ValueError, "on a socket"):
+                Workbook.serve(program=PROGRAM, **words)
+
     def test_a_desk_that_stays_and_is_kept(self):
         """An idle connection gives its seat back; a desk that was ended by force has lost nothing."""
         with Workbook.serve(seats=1, journal=self.path, stay=True, idle=1, program=PROGRAM) as desk:
@@ -109,6 +137,93 @@ class Desks(Files):
             one.undo(4)
             self.assertEqual(ben.history()[3].turned_by, f"seat {1 - ben.names_heard.seat}")
 
+    def test_a_seat_that_was_idle_is_taken_again(self):
+        """Without much ado: the line is run, and the page shows what there is; what others did meanwhile is told."""
+        with Workbook.serve(seats=3, stay=True, idle=1, journal=self.path, program=PROGRAM) as desk, mock.patch.object(channel, "IDLE", 0.5):
+            ben, eva = desk.connect(name="Ben"), desk.connect(name="Eva")
+            ben.array("A", ben.domain("D", range(1, 5)))
+            out = io.StringIO()
+            session = Session(ben, out, width=200)
+            self.wait_for(ben.exchange.channel.is_gone)
+            self.assertTrue(terminal.answered(session, "A[1] = 5"))
+            self.assertEqual(out.getvalue(), "  (another seat was taken: the desk ends a connection that is idle)\n  edit 3, 1 cell\n")
+            view = View(ben)
+            version = view.state()["version"]
+            self.wait_for(ben.exchange.channel.is_gone)
+            eva.again()
+            eva["A"].set(2, 6)
+            self.assertNotEqual(view.state()["version"], version)  # as if it had been there all the time
+            self.assertEqual((view.state()["edits"][-1]["by"], view.state()["taken"]), ("Eva", []))
+            self.wait_for(ben.exchange.channel.is_gone)
+            eva.again()
+            eva["A"].set(2, 7)
+            out.truncate(0), out.seek(0)
+            terminal.answered(session, "A[2] = 8")
+            self.assertIn("is there again, with 5 edits\n  new: edit 5 (A[2] = 7)\n  edit 6, 1 cell\n", out.getvalue())
+            ben.close(), eva.close()
+
+    def test_who_is_there(self):
+        """By the words of a session, which may say its name later; the page tells of those who said one."""
+        with Workbook.serve(seats=4, stay=True, program=PROGRAM) as desk:
+            ben, eva, other = desk.connect(), desk.connect(name="Eva"), desk.connect()
+            out = io.StringIO()
+            session = Session(ben, out)
+            session.line("who")
+            self.assertEqual(out.getvalue(), "  Eva; 2 without a name; 1 of 4 seats free\n")
+            out.truncate(0), out.seek(0)
+            for line in ('hello Ben"', "hello " + "x" * 33, "hello Ben of the shop", "hello Bob", "who"):
+                session.line(line)
+            told = " ".join(out.getvalue().split())
+            self.assertEqual(told.count("the desk does not take the name"), 2)
+            self.assertIn("others here hear of Ben of the shop by what you do from now on", told)
+            self.assertIn("this session is called Ben of the shop, and a name is said once", told)
+            self.assertTrue(told.endswith("Ben of the shop (you) and Eva; 1 without a name; 1 of 4 seats free"), told)
+            view = View(eva)
+            state = view.state()
+            self.assertEqual(state["guests"], ["Ben of the shop"])
+            self.assertEqual(View(other).state()["guests"], [])  # who said no name asks for none
+            ben.exchange.channel.close()
+            self.assertEqual(ben.again(), [])  # the name is said again
+            self.assertIn("Ben of the shop", ben.desk().names.values())
+            ben.close()
+            self.wait_for(lambda: len(eva.desk().names) == 1)
+            view._looked = float("-inf")
+            later = view.state()
+            self.assertEqual(later["guests"], [])
+            self.assertNotEqual(later["version"], state["version"])
+
+    def wait_for(self, holds) -> None:
+        """Waits until something holds."""
+        for _ in range(200):
+            if holds():
+                return
+            time.sleep(0.05)
+        self.assertTrue(holds())
+
+    def test_a_name_is_said_again_at_another_seat(self):
+        """What a session did before it was cut is still its own, and what others did has their names; also where the desk began anew."""
+        with Workbook.serve(seats=2, journal=self.path, stay=True, program=PROGRAM) as desk:
+            ben = desk.connect(name="Ben")
+            ben.array("A", ben.domain("D", range(1, 5)))
+            ben.exchange.channel.close()
+            eva = self.seat(desk, "Eva")
+            eva["A"].set(1, 5)
+            self.assertEqual(ben.again(), [])
+            ben["A"].set(2, 6)
+            self.assertEqual([(e.number, e.who, e.by) for e in ben.history()], [(1, "me", ""), (2, "me", ""), (3, "another", "Eva"), (4, "me", "")])
+            self.assertEqual([e.by for e in eva.history()], ["Ben", "Ben", "", "Ben"])
+            port = desk.port
+        with Workbook.serve(seats=2, port=port, journal=self.path, stay=True, program=PROGRAM) as desk:
+            ann = self.seat(desk, "Ann")
+            ann.undo(3)
+            self.assertEqual(ben.again(), [])
+            self.assertNotEqual(ben.names_heard.seat, ann.names_heard.seat)
+            self.assertEqual([(e.who, e.by, e.turned_by) for e in ben.history()], [
+                ("me", "", ""), ("me", "", ""), ("another", "Eva", "Ann"), ("me", "", "")])
+            ben.redo(3)
+            self.assertEqual(ann.history()[2].turned_by, "Ben")
+            ben.close()
+
     def test_names_that_are_not_taken(self):
         with Workbook.serve(seats=1, program=PROGRAM) as desk:
             with self.assertRaisesRegex(NoNames, "does not take the name 'Ben': only a desk that stays"):
@@ -118,14 +233,14 @@ class Desks(Files):
                 desk.connect(name="B" * 33)
             self.assertEqual(self.seat(desk).counts(), (0, 0))
 
-    def seat(self, desk) -> Workbook:
+    def seat(self, desk, name: Optional[str] = None) -> Workbook:
         """The seat of a desk that stays, once it is free."""
         for _ in range(200):
             try:
-                return desk.connect()
+                return desk.connect(name=name)
             except NoSeat:
                 time.sleep(0.05)
-        return desk.connect()
+        return desk.connect(name=name)
 
     def test_gone_on_from_a_history(self):
         text = self.kept_plan()

@@ -76,6 +76,20 @@ class Talk(unittest.TestCase):
         for sign in ("..<", "..#", "+=", "-=", "*=", "|=", "&=", "^=", "//"):
             self.assertIn(sign, told)
 
+    def test_words_for_a_desk_are_for_a_desk(self):
+        """In a session alone there is nobody to tell, and at a desk that gives each seat once nothing is told."""
+        for line in ("who", "hello Ben"):
+            with self.subTest(line):
+                self.assertIn("that is for a desk: nobody else is here", self.say(line))
+                self.assertTrue(self.session.failed)
+        self.assertIn("expected your name, as in hello Ben", self.say("hello"))
+        self.assertIn("edit 1", self.say("hello = {1..4}"))
+        server = Server(seats=1)
+        self.addCleanup(server.close)
+        self.session = Session(server.connect(), io.StringIO(), width=200)
+        self.assertIn("this desk gives each seat once, and tells nothing of who has one", self.say("who"))
+        self.assertIn("the desk does not take the name 'Ben': only one that stays", self.say("hello Ben"))
+
     def test_exit_is_quit(self):
         self.assertFalse(self.session.line("exit"))
         self.assertFalse(self.session.line(" quit "))
@@ -249,8 +263,9 @@ class Whole(unittest.TestCase):
                 (["--program", junk], "can't be started"), (["--program", echo], "no reply of a workbook"),
                 (["--program", shutil.which("true") or "true"], "has ended with status 0"),
                 (["--connect", "127.0.0.1:1"], "nobody listens"), (["--connect", "127.0.0.1:99999"], "a port is 1 to 65535"),
-                (["--connect", "a..b:7"], "nobody listens"), (["--connect", "localhost"], "HOST:PORT is wanted"),
-                (["--connect", "http://127.0.0.1:70x"], "HOST:PORT is wanted"),
+                (["--connect", "a..b:7"], "nobody listens"), (["--connect", "localhost"], "wanted is HOST:PORT"),
+                (["--connect", "http://127.0.0.1:70x"], "wanted is HOST:PORT"), (["--connect", junk], f"nobody listens at {junk}: Connection refused"),
+                (["--connect", "/no/such"], "nobody listens at /no/such: No such file"),
                 (["--connect", "127.0.0.1:0"], "a port is 1 to 65535"),
             ]:
                 for module in ("workbook_client", "workbook_client.page"):

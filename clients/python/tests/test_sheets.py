@@ -339,6 +339,23 @@ class BySession(unittest.TestCase):
         self.assertIn("│ Ida │   4 │", self.say('HoursRowTitles -= "Emmy"', 'HoursRowTitles += "Ida"', 'HoursRow["Ida"] = 2', "Hours"))
         self.assertIn("│ 1 │   8 │", self.say("drop HoursRow", "Hours").replace("  1", " 1"))
 
+    def test_another_session_has_the_titles_too(self):
+        """They are found by their names: HoursRow and HoursColumn. A session that wants none says so, for itself."""
+        path = os.path.join(self.place, "plan.wb")
+        with Workbook.run(PROGRAM, journal=path) as kept:
+            kept.from_csv("Hours", io.StringIO(HOURS))
+        with Workbook.run(PROGRAM, journal=path) as kept:
+            self.assertEqual(str(kept["Hours"].shown()).splitlines()[1:], TITLED)
+            self.assertEqual(kept["Hours"].to_csv(), HOURS.replace("who", ""))
+            kept["Hours"].label("rows")
+            self.assertEqual(kept["Hours"].to_csv().splitlines()[1], HOURS.splitlines()[1].replace("Ada", "1"))
+            kept["Hours"].label("rows", "HoursRow")
+            self.assertEqual(str(kept["Hours"].shown()).splitlines()[1:], TITLED)
+            self.assertNotIn("Ada", str(kept.array("Other", "HoursRowTitles").shown()).splitlines()[0])
+            kept.array("P", kept.domain("D", (range(2), range(2), range(2))))
+            kept.array("PRow", "HoursRowTitles").update({"Ada": 1})
+            self.assertNotIn("Ada", str(kept["P"].shown()))  # three ranges are no rows and columns
+
     def test_the_lines_of_the_readme(self):
         """What the client's page shows of an import is what comes of it."""
         text = (HERE.parents[1] / "README.md").read_text(encoding="utf-8")

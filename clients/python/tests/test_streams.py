@@ -164,7 +164,7 @@ class Streams(unittest.TestCase):
         for where, status, why in [
             ("redis://plan", 2, "redis://HOST/NAME is wanted, as redis://127.0.0.1/plan, not 'redis://plan', which names no workbook"), ("redis://", 2, "is wanted"), ("redis://host/", 2, "a workbook's name has"),
             ("redis://host/a b", 2, "a workbook's name has"), ("redis://host:99999/plan", 2, "is wanted"), ("redis://host/x/plan", 2, "is wanted"),
-            (f"redis://127.0.0.1:{port}/plan", 3, "no redis at 127.0.0.1"), ("http://host/plan", 2, "is wanted"),
+            (f"redis://127.0.0.1:{port}/plan", 3, "no redis at 127.0.0.1"), ("http://host/plan", 2, "wanted is"),
         ]:
             for module in ("workbook_client", "workbook_client.page"):
                 with self.subTest(f"{module} {where}"):

@@ -2,6 +2,7 @@
 
 import os
 import re
+import signal
 import socket
 import subprocess
 import sys
@@ -42,10 +43,23 @@ class Walk(unittest.TestCase):
         place = tempfile.TemporaryDirectory()
         self.addCleanup(place.cleanup)
         self.place = os.path.realpath(place.name)
+        self.addCleanup(self.end_desk)
         os.symlink(PROGRAM, os.path.join(self.place, "workbook"))
         os.symlink(sys.executable, os.path.join(self.place, "python3"))
         with socket.create_server(("127.0.0.1", 0)) as free:
             self.port = str(free.getsockname()[1])
+
+    def end_desk(self) -> None:
+        """Ends the desk of the walk, where the walk broke off before it did."""
+        try:
+            with open(os.path.join(self.place, "desk.pid"), encoding="ascii") as file:
+                number = int(file.read())
+            with open(f"/proc/{number}/cmdline", "rb") as file:
+                words = file.read().split(b"\0")
+            if b"serve" in words and self.port.encode() in words:  # and no other process that has the number by now
+                os.kill(number, signal.SIGKILL)
+        except (FileNotFoundError, ProcessLookupError):
+            pass
 
     def runs(self, words: List[str], typed: str) -> str:
         """What a command shows."""
@@ -88,7 +102,8 @@ class Walk(unittest.TestCase):
                 continue
             self.assertEqual(typed, [])
             with self.subTest(block.text):
-                self.assertEqual(self.runs(["bash", "-c", block.text.replace("7000", self.port)], ""), block.shown)
+                shown = block.shown.replace("7000", self.port)
+                self.assertEqual(self.runs(["bash", "-c", block.text.replace("7000", self.port)], ""), shown)
 
 
 if __name__ == "__main__":

@@ -1,7 +1,7 @@
 """A workbook that went away: what is told of it, and how a session goes on once it is there again."""
 
 import time
-from typing import List
+from typing import List, Optional
 
 from . import hearing
 from .errors import SessionEnded
@@ -24,6 +24,23 @@ def is_gone(session: Session) -> bool:
 def where(session: Session) -> str:
     """Where the workbook lies; nothing where it is kept nowhere."""
     return session.book.where or session.book.journal or ""
+
+
+def sat_again(session: Session) -> Optional[News]:
+    """What was done meanwhile, where a session that gave its seat back, since it was idle, has another one now; nothing where it has
+    none."""
+    if not session.book.exchange.channel.was_idle():
+        return None
+    try:
+        session.book.again()
+        news = hearing.hear_again(session.book)
+    except (SessionEnded, RedisRefused):
+        return None
+    if news.none:
+        session.wrapped("(another seat was taken: the desk ends a connection that is idle)")
+    else:
+        tell_news(session, news)
+    return news
 
 
 def come_back(session: Session, end: Exception) -> News:

@@ -10,12 +10,12 @@ from .errors import NoAnswer, NoNames, NoSeat, NotResumed, SessionEnded, Strange
 from .exchange import Exchange, Reading, Reply, first_refusal, text_of
 from .files import Source
 from .literals import Ranges
-from .names import Names
+from .names import Names, Standing, standing
 from .objects import Array, Domain, ours
 from .rebuilding import rebuild
 from .refusals import BadRequest, LineTooLong, NoSuchName, NotEmpty, WrongKind
 from .requests import Request
-from .serving import Served
+from .serving import Listening, Served
 from .snapshot import Snapshot
 from .streams import StreamChannel
 from .titles import Labels
@@ -111,26 +111,30 @@ class Workbook:
     @classmethod
     def serve(
         cls, seats: int = 2, port: int = 0, journal: Optional[journals.Path] = None, resume: Optional[str] = None,
-        program: Optional[Program] = None, stay: bool = False, idle: Optional[int] = None,
+        program: Optional[Program] = None, stay: bool = False, idle: Optional[int] = None, socket: Optional[journals.Path] = None,
     ) -> Served:
         """Starts a desk, `workbook serve`, on 127.0.0.1: so many seats, 1 to 16, of one workbook, on a port or on any free one. With
         a `journal` each change is kept there, on the disk, before its reply comes, and the next desk or session goes on from it;
         else the workbook is empty, or goes on from a history's text. With `stay` a seat is free again when its connection has ended,
-        and a connection is ended that is idle for `idle` seconds, 300 where that is None, never where it is 0. `place()` of what is
-        given says where it lies."""
+        and a connection is ended that is idle for `idle` seconds, 300 where that is None, never where it is 0; and it may listen on a
+        `socket`, a file that it makes for this user alone, in the place of a port. `place()` of what is given says where it lies."""
         if journal is not None and resume is not None:
             raise ValueError("a workbook goes on from a history or from its journal, not from both")
         if stay and resume is not None:
             raise ValueError("a desk that stays goes on from its journal, not from a history")
         if idle is not None and not stay:
             raise ValueError("only a desk that stays ends connections that are idle")
-        return Served(cls.connect, seats, port, journal, resume, program, stay, idle)
+        if socket is not None and (not stay or port):
+            raise ValueError("only a desk that stays listens on a socket, and it does so in the place of a port")
+        return Served(cls.connect, seats, journal, resume, program, Listening(port, stay, idle, socket))
 
     @classmethod
     def connect(
-        cls, host: str, port: int, wait: Optional[float] = 5.0, timeout: Optional[float] = None, name: Optional[str] = None
+        cls, host: str, port: Optional[int] = None, wait: Optional[float] = 5.0, timeout: Optional[float] = None,
+        name: Optional[str] = None,
     ) -> "Workbook":
-        """Takes the next seat of a workbook that `workbook serve` shares.
+        """Takes the next seat of a workbook that `workbook serve` shares, at a port of a host; without a port `host` is the path of
+        the socket on which the desk listens.
 
         `NoSeat` where its seats are taken. A server that gives each seat once lets connect then, and says nothing:
         it hasn't answered a first line within `wait` seconds. One that stays says so at once, and a seat is free
@@ -165,7 +169,7 @@ class Workbook:
             book.close()
             raise
         channel.timeout = timeout
-        book._anew = lambda: cls.connect(host, port, wait, timeout, name)
+        book._anew = lambda: cls.connect(host, port, wait, timeout, book.names_heard.name)
         return book
 
     @classmethod
@@ -196,9 +200,32 @@ class Workbook:
         self.exchange.close()
         other = self._anew()
         self.exchange = Exchange(other.exchange.channel, self._hint)
+        self.names_heard.sits_again(other.names_heard)
         if self._tell is not None:
             self.tell_waits(self._tell)
         return lost
+
+    def hello(self, name: str) -> None:
+        """Says a name at a desk that stays, which a session may do once: others there are told of it. ValueError where that isn't so."""
+        self._at_a_desk()
+        if self.names_heard.name is not None:
+            raise ValueError(f"this session is called {self.names_heard.name}, and a name is said once")
+        try:
+            self.names_heard.hello(name)
+        except BadRequest as no:
+            raise ValueError(f"the desk does not take the name {name!r:.60}: only one that stays takes names, of at most 32 bytes") from no
+
+    def desk(self) -> Standing:
+        """How the desk stands: its seats, and who has said a name. ValueError where none tells of it."""
+        self._at_a_desk()
+        try:
+            return standing(self)
+        except BadRequest as no:
+            raise ValueError("this desk gives each seat once, and tells nothing of who has one") from no
+
+    def _at_a_desk(self) -> None:
+        if not isinstance(self.exchange.channel, SocketChannel):
+            raise ValueError("that is for a desk: nobody else is here" if self.alone else "that is for a desk, and not for a log")
 
     def close(self) -> None:
         """Ends the session. What the program was still to answer isn't waited for."""

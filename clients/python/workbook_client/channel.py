@@ -5,17 +5,22 @@ import select
 import shutil
 import socket
 import subprocess
+import sys
 import tempfile
+import time
 from pathlib import Path
 from typing import IO, List, Optional, Sequence, Union
 
-from .errors import NoAnswer, NoProgram, NoServer, SessionEnded
+from .errors import NoAnswer, NoProgram, NoServer, SessionEnded, sentence
 
 PIECE = 65_536
 """So many bytes are asked of the system at once."""
 
 EARLY = 16_384
 """With so many bytes waiting, a send begins to write, so that the other side can begin too."""
+
+IDLE = 60.0
+"""Where nothing was sent for so many seconds, that may be why a connection was ended."""
 
 LONGEST_WORDS = 500
 """So much is told of what a program said at its end."""
@@ -89,6 +94,10 @@ class Channel:
             if waits.poll(0):
                 self._read()
         return self.closed or self._ended or self._torn
+
+    def was_idle(self) -> bool:
+        """Whether nothing was sent for so long that the other side may have ended the session for that."""
+        return False
 
     def close(self) -> None:
         """Ends the session."""
@@ -216,25 +225,50 @@ def last_words(said: Optional[IO[bytes]]) -> str:
 
 
 class SocketChannel(Channel):
-    """A seat of a served workbook."""
+    """A seat of a served workbook: at a port of a host, or, without a port, at the socket that lies at a path."""
 
-    def __init__(self, host: str, port: int, wait: Optional[float] = None):
-        self.where = f"{host}:{port}"
+    def __init__(self, host: str, port: Optional[int], wait: Optional[float] = None):
+        self.where = host if port is None else f"{host}:{port}"
+        self._sent_at = time.monotonic()
         try:
-            self._socket = socket.create_connection((host, port), wait)
+            self._socket = _connected(host, port, wait)
         except (OSError, OverflowError, UnicodeError) as fault:  # the last two: no such port, and no such host
-            raise NoServer(f"nobody listens at {self.where}: {fault}") from fault
-        self._socket.setsockopt(socket.IPPROTO_TCP, socket.TCP_NODELAY, 1)
+            raise NoServer(f"nobody listens at {self.where}: {sentence(fault)}") from fault
         super().__init__(self._socket.fileno(), self._socket.fileno())
 
+    def send(self, line: bytes) -> None:
+        super().send(line)
+        self._sent_at = time.monotonic()
+
     def why(self) -> str:
-        return f"{self.where} has closed the connection"
+        quiet = f"; nothing was sent for {time.monotonic() - self._sent_at:.0f} seconds"
+        idle = f"{quiet}, and a desk may end a connection that is idle for so long" if self.was_idle() else ""
+        return f"{self.where} has closed the connection{idle}"
+
+    def was_idle(self) -> bool:
+        return time.monotonic() - self._sent_at >= IDLE
 
     def close(self) -> None:
         if self.closed:
             return
         super().close()
         self._socket.close()
+
+
+def _connected(host: str, port: Optional[int], wait: Optional[float]) -> socket.socket:
+    """A connection whose lines go out at once."""
+    if port is not None:
+        over_net = socket.create_connection((host, port), wait)
+        over_net.setsockopt(socket.IPPROTO_TCP, socket.TCP_NODELAY, 1)
+        return over_net
+    local = socket.socket(socket.AF_UNIX, socket.SOCK_STREAM)
+    try:
+        local.settimeout(wait)
+        local.connect(host)
+    except BaseException:
+        local.close()
+        raise
+    return local
 
 
 BUILT = Path(__file__).resolve().parents[3] / "crates" / "workbook" / "out" / "workbook"
@@ -257,3 +291,9 @@ def command(program: Optional[Program] = None, word: str = "run") -> List[str]:
             "passed, and until then scripts/model-program stands in, slow and unproved"
         )
     return [found, word]
+
+
+def called(module: str) -> str:
+    """What starts this: a command that was installed, or Python."""
+    name = os.path.basename(sys.argv[0])
+    return name if name.startswith("workbook-") else f"python3 -m {module}"

@@ -27,13 +27,20 @@ export function showEdits() {
 function draw() {
   const held = focused();
   const items = state.edits.map(drawn).reverse();
-  if (state.earlier) items.push(make("li", "", make("span", "k", "…"), make("span", "what", state.earlier + " earlier edits")));
+  if (state.earlier) items.push(earlier());
   if (!items.length) items.push(make("li", "", "", make("span", "meta", "no edits yet")));
   put($("edits"), items);
   drawNotices();
   for (const lit of document.querySelectorAll("#edits li.lit")) lit.classList.remove("lit");
   for (const k of [...(looked?.needs ?? []), lighted]) mark(k, true);
   if (held) item(held.k)?.querySelectorAll("button")[held.n]?.focus();
+}
+
+/** How many edits came before those that are shown, and the way to them. */
+function earlier() {
+  const many = state.earlier + " earlier edit" + (state.earlier === 1 ? "" : "s");
+  const more = button("", "show more", () => ask({op: "earlier"}, "earlier edits"));
+  return make("li", "earlier", make("span", "k", "…"), make("span", "what", many), more);
 }
 
 /** The item of an edit, drawn anew where something of it changed. */

@@ -3,6 +3,7 @@
 import {$, ask, button, tell} from "./talk.js";
 import {cardOf, light, marks, placeOf, pointed, setting, showArrays, showNumber} from "./tables.js";
 import {placed, spelled, whole} from "./pasting.js";
+import {offerPasted} from "./newtable.js";
 
 let chosen = null; // the array, the key of the cell that is chosen and of the one up to which cells are, or whether all are
 let editor = null; // the cell in which somebody types
@@ -257,10 +258,12 @@ function onCopy(e) {
   tell(true, where(area()) + " copied");
 }
 
-/** A table that was copied elsewhere: one edit where ranges say which cells they are, else each of them is set, all or none. */
+/** A table that was copied elsewhere: one edit where ranges say which cells they are, else each of them is set, all or none. Where no
+    cell is chosen it may become a table of its own. */
 function onPaste(e) {
-  if (!chosen || typing(e.target)) return;
+  if (typing(e.target)) return;
   e.preventDefault();
+  if (!chosen) return offerPasted(e.clipboardData.getData("text/plain"));
   const to = area(), {wrong, one, on, vs, set, keys, last} = placed(e.clipboardData.getData("text/plain"), to);
   if (wrong) return tell(false, wrong);
   if (one) return fill(one);

@@ -8,13 +8,10 @@ from .literals import label
 from .objects import Array
 from .refusals import LineTooLong
 from .sheets import Table
-from .titles import WAYS
+from .titles import ENDINGS, WAYS
 
 if TYPE_CHECKING:
     from .book import Workbook
-
-ENDINGS = {"rows": "Row", "columns": "Column"}
-"""How the array of titles of a new table is called, behind the table's name."""
 
 
 class Made(NamedTuple):
@@ -46,7 +43,6 @@ def new_table(book: "Workbook", name: str, table: Table) -> Made:
                 left += headings
     for way in WAYS:
         book.labels.pop((name, way), None)
-    book.labels.update({(name, way): source for way, source in titles.items()})
     return Made(edits, titles, left)
 
 

@@ -12,8 +12,9 @@ from . import requests
 from .requests import Request
 
 COMMANDS = (
-    "cascade", "colours", "compact", "dependents", "drop", "exit", "export", "help", "history", "import", "keep", "label", "load", "max", "min",
+    "cascade", "colours", "compact", "dependents", "drop", "exit", "export", "hello", "help", "history", "import", "keep", "label", "load", "max", "min",
     "more", "names", "piece", "quit", "redo", "save", "show", "size", "text", "undo", "where",
+    "who",
 )
 WORDS = COMMANDS + ("by", "align", "dmapped", "over", "sparse", "reduce", "int", "text", "irv", "rows", "columns")
 
@@ -71,6 +72,11 @@ def parse(line: str, kind_of: Callable[[str], Optional[str]]) -> Union[Request, 
         if not file["path"] and file["word"] != "compact":
             raise LanguageError(f"expected a file's name after {file['word']}", file.end())
         return Command(file["word"], (file["path"],))
+    hello = _HELLO.match(line)
+    if hello:
+        if not hello["name"]:
+            raise LanguageError("expected your name, as in hello Ben", hello.end())
+        return Command("hello", (hello["name"],))
     sheet = _SHEET.match(line)
     if sheet:
         if not sheet["path"]:
@@ -81,6 +87,7 @@ def parse(line: str, kind_of: Callable[[str], Optional[str]]) -> Union[Request, 
 
 _NO_STATEMENT = r"\b(?!\.|\s*\[|\s*[-+*|&^]?=|\s+(?:over|sparse|dmapped)\b)\s*"  # nothing is called save, here
 _FILE = re.compile(rf"\s*(?P<word>save|load|keep|compact){_NO_STATEMENT}(?P<path>.*?)\s*$")
+_HELLO = re.compile(rf"\s*hello{_NO_STATEMENT}(?P<name>.*?)\s*$")
 _SHEET = re.compile(rf"\s*(?P<word>import|export){_NO_STATEMENT}(?:(?P<name>[A-Za-z]\w*)\s+(?P<path>.+?))?(?(name)\s*$|.*$)", re.ASCII)
 
 

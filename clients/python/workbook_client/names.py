@@ -26,13 +26,41 @@ class Doing(NamedTuple):
     seat: int
 
 
+class Standing(NamedTuple):
+    """How a desk that stays stands."""
+
+    seats: int
+    free: int
+    """How many of its seats nobody has."""
+    names: Dict[int, str]
+    """Who has said a name, by seat."""
+    since: int
+    """When it began, in seconds since 1970."""
+    entries: int
+    """How many requests it keeps that aren't checked yet."""
+    journal: Optional[int]
+    """How many bytes its journal has."""
+
+
+class Sitting(NamedTuple):
+    """What was done from one number on, and before another, at a seat that this session had."""
+
+    first: int
+    end: float
+    seat: int
+
+    def has(self, number: int, doing: Doing, name: Optional[str]) -> bool:
+        """Whether this session did it."""
+        return self.first <= number < self.end and (doing.seat, doing.name) == (self.seat, name)
+
+
 class Names:
     """What a session hears of who did what. A desk that gives each seat once tells nothing of it."""
 
     def __init__(self, book: "Workbook"):
         self._book = book
         self._next = 1  # the number of the next thing that is to be heard of
-        self._since = 0  # what was done from this number on at this seat, this session did
+        self._sittings: List[Sitting] = []
         self._early: List[Tuple[Doing, bool]] = []  # what was heard of edits of which this session doesn't know yet, and whether it did it
         self.seat: Optional[int] = None
         """The number of this session's seat, where it has said its name."""
@@ -45,7 +73,19 @@ class Names:
         """Says this session's name, which it may do once; `BadRequest` where the desk takes no names, or not this one."""
         self.seat = self._book.ask(requests.hello(name)).number("seat")
         self.name, self.tells = name, True
-        self._since = self._book.ask(requests.doings_from(LATEST)).number("from")
+        since = self._book.ask(requests.doings_from(LATEST)).number("from")
+        self._sittings.append(Sitting(since, float("inf"), self.seat))
+
+    def sits_again(self, other: "Names") -> None:
+        """Goes on from another seat of the desk, or of one that has begun anew, where the same name was said."""
+        if not other.tells:
+            return
+        now = other._sittings[-1]
+        if now.first < self._next:  # it has begun anew, and knows nothing of before
+            self._next, self._sittings, self._early = 1, [], []
+        before = [sitting._replace(end=min(sitting.end, now.first)) for sitting in self._sittings]
+        self._sittings = [*before, now]
+        self.seat, self.name, self.tells = other.seat, other.name, True
 
     def hear(self) -> None:
         """Hears who did what since it was last asked."""
@@ -54,14 +94,12 @@ class Names:
         told = self._book.ask(requests.doings_from(self._next))
         first = told.number("from")
         doings = [_doing(one) for one in told.listed("done")]
-        if first < self._next:  # the desk has begun anew
-            self._since = 0
         heard = self._early + [(doing, self._is_mine(number, doing)) for number, doing in enumerate(doings, start=first)]
         self._early = [one for one in heard if not self._note(*one)][-MOST:]
         self._next = first + len(doings)
 
     def _is_mine(self, number: int, doing: Doing) -> bool:
-        return number >= self._since and doing.seat == self.seat
+        return any(sitting.has(number, doing, self.name) for sitting in self._sittings)
 
     def _note(self, doing: Doing, mine: bool) -> bool:
         """Notes it at its edit, if that is known."""
@@ -74,6 +112,17 @@ class Names:
         else:
             edit.turned_by = name
         return True
+
+
+def standing(book: "Workbook") -> Standing:
+    """How the desk stands; `BadRequest` where it tells nothing of it."""
+    told = book.ask(requests.desk())
+    journal = None if told["journal"] is None else told.number("journal")
+    try:
+        names = {int(one["seat"]): str(one["name"]) for one in told.listed("names")}
+    except (KeyError, TypeError, ValueError) as wrong:
+        raise StrangeReply(f"what came tells of no names: {dict(told)!r:.200}") from wrong
+    return Standing(told.number("seats"), told.number("free"), names, told.number("since"), told.number("entries"), journal)
 
 
 def _doing(told: Any) -> Doing:

@@ -206,7 +206,8 @@ class Array(_Named):
 
     def label(self, way: str, source: "Union[str, Array, None]" = None) -> None:
         """Titles for this array's "rows" or "columns", wherever this `Workbook` shows it: those of an array over texts, where
-        `B["Ada"] = 3` calls row 3 Ada. Without one it has its indices again. Nothing in the workbook changes."""
+        `B["Ada"] = 3` calls row 3 Ada. Without one it has its indices again. Nothing in the workbook changes. An array that is called
+        as this one, with `Row` or `Column` behind it, gives its titles unasked."""
         if way not in WAYS:
             raise ValueError(f'{way!r:.40} is neither "rows" nor "columns"')
         name = ours(self.book, source)
@@ -215,7 +216,7 @@ class Array(_Named):
             checked(self._shot(), self.name, way, name)
             self.book.labels[self.name, way] = name
         else:
-            self.book.labels.pop((self.name, way), None)
+            self.book.labels[self.name, way] = None
 
     def shown(self, by: int = 1, width: int = 100) -> notebook.Shown:
         """The array as a table, `print(A.shown())`, and in a notebook as such. With 10, 100 and so on that many digits of each number

@@ -21,8 +21,11 @@ function show() {
 function place() {
   if (state.kept) return [state.kept.split("/").pop(), "kept in " + state.kept + ": each change is on the disk before it is told"];
   if (state.alone) return ["kept nowhere", "kept nowhere: it is gone when its program ends (--journal FILE keeps one)"];
-  return [state.where, "shared at " + state.where + ": other seats edit too"];
+  return [state.where, "shared at " + state.where + (state.guests.length ? " with " + listed(state.guests) : ": other seats edit too")];
 }
+
+/** "Ben", "Ben and Eva", "Ben, Eva and Ida". */
+const listed = names => [names.slice(0, -1).join(", "), names[names.length - 1]].filter(Boolean).join(" and ");
 
 /** How much changed that wasn't looked at yet; a click takes the marks off. */
 function showMarks() {
@@ -42,7 +45,7 @@ function settle() {
 const KEYS = `  arrow keys, Tab         move; with Ctrl to the edge, with Shift choose many, as the mouse does; Ctrl-A chooses all
   a digit, Enter, F2      type; Enter sets it and goes down, Tab goes on, Escape leaves it; A[1] + 3 makes a copy
   Ctrl-Enter, Delete      fill what is chosen with what was typed, or with 0
-  Ctrl-C, Ctrl-V          copy and paste text with tabs, as spreadsheets do
+  Ctrl-C, Ctrl-V          copy and paste text with tabs, as spreadsheets do; where no cell is chosen, a new table
   Ctrl-Z, Ctrl-Y          take back the latest edit of yours, and put it back
   Escape                  takes the marks off what changed`;
 $("keys").onclick = () => tell(true, KEYS);

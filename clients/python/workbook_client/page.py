@@ -26,7 +26,7 @@ from .terminal import arguments, may_leave, open_book
 from .view import Sight, View
 
 HERE = Path(__file__).parent
-SCRIPTS = ("page.js", "talk.js", "edits.js", "grid.js", "tables.js", "pasting.js")
+SCRIPTS = ("page.js", "talk.js", "edits.js", "grid.js", "tables.js", "pasting.js", "newtable.js")
 KINDS = {".html": "text/html; charset=utf-8", ".css": "text/css; charset=utf-8", ".js": "text/javascript; charset=utf-8"}
 LONGEST = 1 << 21
 """So many bytes a request of the page may have."""
@@ -229,8 +229,7 @@ def serve_until_left(server: Server, session: Session) -> None:
 
 def main(words: Optional[List[str]] = None) -> int:
     """The page, until Ctrl-C."""
-    parser = arguments("A page for a workbook, on 127.0.0.1.")
-    parser.prog = "python3 -m workbook_client.page"
+    parser = arguments("A page for a workbook, on 127.0.0.1.", "workbook_client.page")
     parser.add_argument("--port", type=int, default=8765, help="the page's port (0 takes any; 8765)")
     parser.add_argument("--open", action="store_true", help="open the page in a browser")
     parser.add_argument("--file", metavar="SCRIPT", help="run the lines of a file first")

@@ -34,6 +34,8 @@ class Reach:
         channel = self._book.exchange.channel
         if self._away is None and channel.is_gone():
             self.went(SessionEnded(channel.why()))
+            if channel.was_idle():  # the desk is there, and gave the seat to others: another one is taken at once
+                self._tried = float("-inf")
         return None if self._away is None else self._tried_again(self._away)
 
     def went(self, end: Exception) -> None:

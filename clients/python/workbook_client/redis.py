@@ -6,7 +6,7 @@ import socket
 from typing import Any, List, NamedTuple, Sequence, Union
 from urllib.parse import unquote, urlsplit
 
-from .errors import SessionEnded
+from .errors import SessionEnded, sentence
 
 Word = Union[str, bytes, int, float]
 
@@ -34,6 +34,11 @@ def place_of(url: str) -> Place:
     return Place(parts.hostname or "127.0.0.1", port, unquote(parts.username or ""), unquote(parts.password or ""), number)
 
 
+def without_password(url: str) -> str:
+    """A URL as it may be shown."""
+    return re.sub("//[^/]*@", "//", url)
+
+
 class RedisRefused(Exception):
     """Redis answered a command by an error."""
 
@@ -57,7 +62,7 @@ class Redis:
         try:
             self._socket = socket.create_connection((place.host, place.port), wait)
         except (OSError, UnicodeError) as fault:  # UnicodeError: no such host
-            raise RedisGone(f"no redis at {self.where}: {fault}") from fault
+            raise RedisGone(f"no redis at {self.where}: {sentence(fault)}") from fault
         self._socket.setsockopt(socket.IPPROTO_TCP, socket.TCP_NODELAY, 1)
         self._coming = self._socket.makefile("rb")
         if place.password:

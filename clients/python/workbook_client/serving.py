@@ -1,7 +1,8 @@
 """A desk that this client started: `workbook serve`, whose seats share one workbook."""
 
+import os
 import subprocess
-from typing import IO, TYPE_CHECKING, Any, Callable, List, Optional
+from typing import IO, TYPE_CHECKING, Any, Callable, List, NamedTuple, Optional
 
 from . import journal as journals
 from .channel import STATUSES, Program, command, last_words, scratch
@@ -14,34 +15,62 @@ GRACE = 5.0
 """So many seconds a program has to end after it closed its output."""
 LISTENING = b"listening on "
 """What a desk's first line begins with."""
-OTHER_FAULTS = ("workbook: input or output failed", "workbook: the port ")
+OTHER_FAULTS = ("workbook: input or output failed", "workbook: the port ", "workbook: the socket ")
 """What a program's last words begin with where a desk isn't there, and its journal isn't the cause."""
+
+
+class Listening(NamedTuple):
+    """Where a desk listens, and whether it stays."""
+
+    port: int
+    stay: bool
+    idle: Optional[int]
+    socket: Optional[journals.Path]
+
+    def path(self) -> str:
+        """The path of its socket."""
+        assert self.socket is not None
+        return journals.place_of(self.socket)
+
+    def words(self) -> List[str]:
+        """The words that say so."""
+        place = ["--port", str(self.port)] if self.socket is None else ["--socket", self.path()]
+        idle = [] if self.idle is None else ["--idle", str(self.idle)]
+        return [*(["--stay"] if self.stay else []), *place, *idle]
 
 
 class Served:
     """A desk. It ends by itself once each of its seats was taken and left, or, where it stays, by `settled`; and else by `close`."""
 
     def __init__(
-        self, take: "Callable[..., Workbook]", seats: int, port: int, journal: Optional[journals.Path], resume: Optional[str],
-        program: Optional[Program], stay: bool, idle: Optional[int],
+        self, take: "Callable[..., Workbook]", seats: int, journal: Optional[journals.Path], resume: Optional[str],
+        program: Optional[Program], how: Listening,
     ):
         self._take = take
         self.seats = seats
         """How many seats it has. Each is taken once; where it stays, again and again."""
-        self.stays = stay
+        self.stays = how.stay
         """Whether a seat is free again when its connection has ended."""
         self.journal = None if journal is None else journals.place_of(journal)
         """The file in which each change is kept before its reply comes; None where it is kept nowhere."""
         self._books: "List[Workbook]" = []
-        words = [*_words(program, seats, port, self.journal, resume is not None), *_staying(stay, idle)]
+        words = [*command(program, "serve"), *how.words(), *_words(seats, self.journal, resume is not None)]
         self._said = scratch()
         self._process = self._started(words)
         assert self._process.stdin and self._process.stdout
         self._told: IO[bytes] = self._process.stdout
         self._input: IO[bytes] = self._process.stdin
-        if not stay:
+        if not self.stays:
             self._gives(resume or "")
-        self.host, self.port = "127.0.0.1", self._listening()
+        self.host = "127.0.0.1"
+        """Where it listens: this machine alone, or the path of its socket."""
+        self.port: Optional[int] = None
+        """Its port; None where it listens on a socket."""
+        if how.socket is None:
+            self.port = self._listening()
+        else:
+            self.host = how.path()
+            self._heard(self.host)
 
     def _started(self, words: List[str]) -> "subprocess.Popen[bytes]":
         try:
@@ -67,10 +96,20 @@ class Served:
         line = self._told.readline()
         if line.startswith(LISTENING) and line[-6:].split(b":")[-1].strip().isdigit():
             return int(line.rpartition(b":")[2])
-        if line and line != b"refused\n":
-            self.close()
-            raise SessionEnded(f"what was started is no desk: it says {line[:200]!r}")
-        raise self._not_there()
+        raise self._no_desk(line)
+
+    def _heard(self, path: str) -> None:
+        """Waits until the desk tells that it listens on its socket."""
+        line = self._told.readline()
+        if line.rstrip(b"\n") != LISTENING + os.fsencode(path):
+            raise self._no_desk(line)
+
+    def _no_desk(self, line: bytes) -> SessionEnded:
+        """Why what was started is no desk, by its first line."""
+        if not line or line == b"refused\n":
+            return self._not_there()
+        self.close()
+        return SessionEnded(f"what was started is no desk: it says {line[:200]!r}")
 
     def _not_there(self) -> SessionEnded:
         """Why the desk isn't there."""
@@ -89,7 +128,7 @@ class Served:
     @property
     def address(self) -> str:
         """Where it listens, as `--connect` takes it."""
-        return f"{self.host}:{self.port}"
+        return self.host if self.port is None else f"{self.host}:{self.port}"
 
     def place(self) -> str:
         """Where the workbook lies, and whether it is kept."""
@@ -140,16 +179,7 @@ class Served:
         return f"<a desk at {self.place()}>"
 
 
-def _words(program: Optional[Program], seats: int, port: int, journal: Optional[str], resumes: bool) -> List[str]:
-    """The words that start it."""
-    words = [*command(program, "serve"), "--port", str(port), "--seats", str(seats)]
-    if journal is not None:
-        words += ["--journal", journal]
-    return words + (["--resume"] if resumes else [])
-
-
-def _staying(stay: bool, idle: Optional[int]) -> List[str]:
-    """The words for a desk that stays."""
-    if not stay:
-        return []
-    return ["--stay", *([] if idle is None else ["--idle", str(idle)])]
+def _words(seats: int, journal: Optional[str], resumes: bool) -> List[str]:
+    """The words for its seats, and for where its workbook begins."""
+    kept = [] if journal is None else ["--journal", journal]
+    return ["--seats", str(seats), *kept, *(["--resume"] if resumes else [])]

@@ -51,6 +51,7 @@ Looking        A     A[4]     A[1..20]       a table, an element, a part of the 
 Edits          history    history 18         every edit, or from 18 on: who, what, whether in force
                undo    undo 3    redo 3      one edit alone, the latest if none is named
                dependents 3    cascade 3     who needs edit 3; takes it back with those
+At a desk      who    hello Ben              who is there, and what others are told of who you are
 Files          save FILE    load FILE        the text of the workbook
                keep FILE                     the whole history, for --resume FILE
                import A FILE  export A FILE  a table of a spreadsheet, .csv or .tsv
@@ -234,7 +235,7 @@ class Session:
 
     def do_label(self, name: str, way: str, source: Optional[str]) -> None:
         if source is None:
-            self.book.labels.pop((name, way), None)
+            self.book.labels[name, way] = None
             self.say(f"  {way} of {name} have their numbers")
             return
         found = titles.titles(titles.checked(self.book.snapshot(), name, way, source), source)
@@ -242,22 +243,25 @@ class Session:
         self.wrapped(f"{way} of {name} have titles from {source}: {len(found)} of them, {self.here}")
 
     def do_import(self, name: str, path: str) -> None:
-        text = files.read(path)
+        self.took(name, files.read(path))
+
+    def took(self, name: str, text: str, of: str = "file") -> None:
+        """Takes in the text of a spreadsheet's file, or of a table: as a new array, or into one that is there."""
         if self.book.kind(name) is not None:
-            self.imported(f"{name} has", Array(self.book, name).from_csv(io.StringIO(text)))
+            self.imported(f"{name} has", of, Array(self.book, name).from_csv(io.StringIO(text)))
             return
         made = labels.new_table(self.book, name, sheets.guessed(sheets.cells_of(text)))
-        self.imported(f"{name} is new, and has", made.edits)
+        self.imported(f"{name} is new, and has", of, made.edits)
         for way, source in made.titles.items():
             self.wrapped(f"its {way} have titles from {source}")
         if made.left:
             self.wrapped(f"headings that can't be titles were left out: {', '.join(made.left)}")
 
-    def imported(self, what: str, edits: List[Edit]) -> None:
-        """Tells by which edits a file came in."""
+    def imported(self, what: str, of: str, edits: List[Edit]) -> None:
+        """Tells by which edits a file, or a table, came in."""
         first, last = (edits[0].number, edits[-1].number) if edits else (0, 0)
         by = f"edits {first} to {last}, of which each is taken back by itself" if first < last else f"edit {first}"
-        self.wrapped(f"{what} the numbers of the file, by {by}" if edits else "the file has no number, so nothing changed")
+        self.wrapped(f"{what} the numbers of the {of}, by {by}" if edits else f"the {of} has no number, so nothing changed")
 
     def do_export(self, name: str, path: str) -> None:
         book = self.book.snapshot()
@@ -302,6 +306,21 @@ class Session:
         room = self.width - taken - 4
         cut = [[_cut(t, room) if c == 2 else t for c, t in enumerate(row)] for row in rows]
         return grid(head, [[Cell(t) for t in row] for row in cut], 10**6, left=len(head))
+
+    def do_who(self) -> None:
+        """Who is at the desk, by the names that they said."""
+        now = self.book.desk()
+        mine = self.book.names_heard.seat
+        others = sorted(name for seat, name in now.names.items() if seat != mine)
+        named = [*([f"{now.names[mine]} (you)"] if mine in now.names else []), *others]
+        without = now.seats - now.free - len(named)
+        parts = [_listed(named)] if named else []
+        parts += [f"{without} without a name"] if without else []
+        self.wrapped(f"{'; '.join(parts)}; {now.free} of {now.seats} seats free")
+
+    def do_hello(self, name: str) -> None:
+        self.book.hello(name)
+        self.say(f"  others here hear of {name} by what you do from now on")
 
     def do_dependents(self, k: int) -> None:
         found = self.book.dependents(k)
@@ -428,6 +447,11 @@ class Session:
             return _takes_back(self.book.dependents(k), k)
         except Refusal:
             return " takes back all that stand in the way"
+
+
+def _listed(words: List[str]) -> str:
+    *first, last = words
+    return f"{', '.join(first)} and {last}" if first else last
 
 
 def _takes_back(dependents: List[int], k: int) -> str:

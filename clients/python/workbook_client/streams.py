@@ -1,6 +1,5 @@
 """Lines out to a workbook's log in Redis, and its replies in."""
 
-import re
 import time
 import uuid
 import warnings
@@ -10,7 +9,7 @@ from typing import Callable, Deque, List, Optional, Sequence
 from . import log
 from .channel import EARLY, Channel
 from .errors import NoAnswer, SessionEnded, StrangeReply
-from .redis import Redis, RedisGone, RedisRefused, Word
+from .redis import Redis, RedisGone, RedisRefused, Word, without_password
 
 SLICE = 1.0
 """So many seconds are waited at once."""
@@ -24,7 +23,8 @@ class StreamChannel(Channel):
     """A caller of a workbook whose requests stand in a log, and are answered by whichever worker has the workbook."""
 
     def __init__(self, url: str, name: str, timeout: Optional[float] = None):
-        self.where = f"{re.sub('//[^/]*@', '//', url)} {name}"
+        self._at = without_password(url)
+        self.where = f"{self._at} {name}"
         self.timeout = timeout
         self.closed = False
         self._name, self._caller = name, uuid.uuid4().hex
@@ -80,7 +80,7 @@ class StreamChannel(Channel):
         if count:
             return f"no answer for {PATIENCE:g} seconds; {count} worker{'s' * (count > 1)} there, so it is waited for"
         return (
-            f"no answer for {PATIENCE:g} seconds, and no worker is there; `python3 -m workbook_client.worker --consumer one --redis ..` "
+            f"no answer for {PATIENCE:g} seconds, and no worker is there; `python3 -m workbook_client.worker --redis {self._at}` "
             "answers what stands in the log, whenever it is started"
         )
 

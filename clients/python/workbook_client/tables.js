@@ -93,7 +93,7 @@ export const keyOf = (name, at) => name + "[" + at + "]";
 // --- drawing
 
 function empty() {
-  const box = make("div", "empty", make("p", "", "The workbook is empty. Write below, for example:"));
+  const box = make("div", "empty", make("p", "", "The workbook is empty. Paste a table of a spreadsheet (Ctrl-V), open one, or write below, for example:"));
   for (const line of ["D = {1..3, 1..4}", "A over D", "A[2, 3] = 9"]) box.append(make("code", "", line));
   return box;
 }

@@ -8,6 +8,7 @@ from typing import Any, List, NamedTuple, Optional, TextIO, Union
 
 from . import away, files, log
 from .book import Workbook
+from .channel import called
 from .errors import NoProgram, NotResumed, SessionEnded, WorkbookError, sentence
 from .language import WORDS
 from .redis import RedisRefused, place_of
@@ -87,11 +88,9 @@ def converse(session: Session) -> int:
 def answered(session: Session, text: str) -> bool:
     """Runs a line that was typed. False where it asks for the end. A shared workbook that is away is waited for: a line that wasn't
     sent is run then, unless something was done meanwhile."""
-    if text.strip() not in WITHOUT and away.is_gone(session):
-        news = away.come_back(session, SessionEnded(session.book.exchange.channel.why()))
-        if not news.none:
-            session.wrapped("the line wasn't run, since that was before it: type it again, if it is still meant")
-            return True
+    if text.strip() not in WITHOUT and away.is_gone(session) and not is_still_meant(session):
+        session.wrapped("the line wasn't run, since that was before it: type it again, if it is still meant")
+        return True
     try:
         return session.line(text, PROMPT)
     except SessionEnded as end:
@@ -99,6 +98,15 @@ def answered(session: Session, text: str) -> bool:
     except KeyboardInterrupt:
         session.say("  (not waited for; its reply is read before the next)")
     return True
+
+
+def is_still_meant(session: Session) -> bool:
+    """Takes the workbook up again, and says whether a line that wasn't sent is run then: where nothing was done meanwhile. Who was
+    idle and takes another seat may run it too where others did something, as who kept a seat may."""
+    news = away.sat_again(session)
+    if news is not None:
+        return not news.other
+    return away.come_back(session, SessionEnded(session.book.exchange.channel.why())).none
 
 
 def may_leave(session: Session) -> bool:
@@ -147,19 +155,25 @@ class Log(NamedTuple):
 
 
 class Desk(NamedTuple):
-    """A workbook that `workbook serve` shares."""
+    """A workbook that `workbook serve` shares: at a port of a host, or at the socket of a path."""
 
     host: str
-    port: int
+    port: Optional[int] = None
+
+
+WHERE = "HOST:PORT, as 127.0.0.1:7000, the path of a desk's socket with a / in it, as ./plan.socket, or redis://HOST/NAME"
+"""What --connect takes."""
 
 
 def address(text: str) -> Union[Desk, Log]:
-    """HOST:PORT, PORT alone with a colon before it, or [HOST]:PORT where the host has colons; or redis://HOST/NAME."""
+    """HOST:PORT, PORT alone with a colon before it, or [HOST]:PORT where the host has colons; a path; or redis://HOST/NAME."""
     if text.startswith("redis://"):
         return log_at(text)
+    if "/" in text and "://" not in text:
+        return Desk(os.path.expanduser(text))
     host, colon, port = text.rpartition(":")
     if not colon or not (port.isascii() and port.isdigit() and len(port) < 6):
-        raise argparse.ArgumentTypeError(f"HOST:PORT is wanted, as 127.0.0.1:7000, or redis://HOST/NAME, not {text!r}")
+        raise argparse.ArgumentTypeError(f"wanted is {WHERE}; not {text!r}")
     if not 1 <= int(port) <= 65535:
         raise argparse.ArgumentTypeError(f"a port is 1 to 65535, and not {port}")
     return Desk(host.strip("[]") or "127.0.0.1", int(port))
@@ -178,14 +192,14 @@ def log_at(text: str) -> Log:
     return Log(url, name)
 
 
-def arguments(description: str) -> argparse.ArgumentParser:
+def arguments(description: str, module: str) -> argparse.ArgumentParser:
     """The options that the session and the page have in common."""
-    parser = argparse.ArgumentParser(description=description)
+    parser = argparse.ArgumentParser(description=description, prog=called(module))
     where = parser.add_mutually_exclusive_group()
     where.add_argument("--program", help="the program to start (else WORKBOOK_PROGRAM, else workbook)")
     where.add_argument(
         "--connect", metavar="WHERE", type=address,
-        help="a shared workbook: HOST:PORT, where `workbook serve` listens, or redis://HOST/NAME, which workers answer",
+        help="a shared workbook: HOST:PORT, or the path of a socket, where `workbook serve` listens, or redis://HOST/NAME, which workers answer",
     )
     parser.add_argument("--name", help="what others at a desk that stays are told of who did what; with --connect")
     parser.add_argument("--resume", metavar="FILE", help="go on from a history that `keep FILE` has written")
@@ -231,8 +245,7 @@ def _answering(book: Workbook) -> Workbook:
 
 def main(words: Optional[List[str]] = None) -> int:
     """The session; gives the exit status."""
-    parser = arguments("A session with a workbook: `help` at the prompt lists its language.")
-    parser.prog = "python3 -m workbook_client"
+    parser = arguments("A session with a workbook: `help` at the prompt lists its language.", "workbook_client")
     parser.add_argument("--file", metavar="SCRIPT", help="run the lines of a file (- for standard input)")
     parser.add_argument("--keep-going", action="store_true", help="go on after a refused line of SCRIPT")
     parser.add_argument("--colours", action="store_true", help="tables coloured by locale from the start")

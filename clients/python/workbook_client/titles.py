@@ -1,14 +1,19 @@
-"""Titles of rows and columns, which a workbook has as an array over texts: `B["Ada"] = 3` calls row 3 Ada."""
+"""Titles of rows and columns, which a workbook has as an array over texts: `B["Ada"] = 3` calls row 3 Ada.
 
-from typing import Dict, Mapping, Optional, Tuple
+An array `Hours` has the titles of `HoursRow` and `HoursColumn`, where these are there, unless a session tells others.
+"""
+
+from typing import Dict, List, Mapping, Optional, Tuple
 
 from .snapshot import AssocDomain, RectDomain, Snapshot
 from .tables import Looks
 
 WAYS = ("rows", "columns")
 """The ways of a table, in the order of an index."""
-Labels = Dict[Tuple[str, str], str]
-"""Of an array's "rows" or "columns", the array whose texts are their titles."""
+ENDINGS = {"rows": "Row", "columns": "Column"}
+"""How the array of titles is called, behind the name of the array that has them, where nothing else is told."""
+Labels = Dict[Tuple[str, str], Optional[str]]
+"""Of an array's "rows" or "columns", the array whose texts are their titles; None where they are to have none."""
 
 
 def titles(shot: Snapshot, source: Optional[str]) -> Dict[int, str]:
@@ -41,10 +46,29 @@ def _is_of_texts(shot: Snapshot, domain: str) -> bool:
     return isinstance(found, AssocDomain) and found.of == "text"
 
 
-def looks(labels: Mapping[Tuple[str, str], str], shot: Snapshot, name: str, decimals: int = 0, page: int = 0) -> Looks:
-    """How an array is shown: with the titles that it was given, as they are now."""
-    down, across = (titles(shot, labels.get((name, way))) for way in WAYS)
+def looks(labels: Mapping[Tuple[str, str], Optional[str]], shot: Snapshot, name: str, decimals: int = 0, page: int = 0) -> Looks:
+    """How an array is shown: with the titles that it was given, or those of an array that is called so, as they are now."""
+    down, across = (titles(shot, source) for source in sources(labels, shot, name))
     return Looks(down, across, decimals, page)
+
+
+def sources(labels: Mapping[Tuple[str, str], Optional[str]], shot: Snapshot, name: str) -> List[Optional[str]]:
+    """What the arrays are called from which an array's rows and columns would have their titles."""
+    rank = _rank(shot, name)
+    return [labels.get((name, way), name + ENDINGS[way]) if at < rank <= 2 else None for at, way in enumerate(WAYS)]
+
+
+def last_with_titles(labels: Mapping[Tuple[str, str], Optional[str]], shot: Snapshot) -> List[str]:
+    """The names of all arrays: first those that are no titles of another, then those that are."""
+    used = {source for name in shot.arrays for source in sources(labels, shot, name)}
+    return sorted(shot.arrays, key=lambda name: (name in used and _is_of_texts(shot, shot.arrays[name].over), name))
+
+
+def _rank(shot: Snapshot, name: str) -> int:
+    """How many ways an array over a rectangle has; 0 for any other."""
+    array = shot.arrays.get(name)
+    domain = shot.domains[array.over] if array else None
+    return len(domain.ranges) if isinstance(domain, RectDomain) else 0
 
 
 def digits_of(by: int) -> int:

@@ -15,7 +15,7 @@ from .edits import Cascade, Edit
 from .errors import NotTakenBack, SessionEnded, WorkbookError
 from .hearing import News
 from .language import LanguageError, parse
-from .literals import GREATEST, LEAST, Index, index_text, spelled_ranges
+from .literals import GREATEST, LEAST, Index, index_text, name as named, spelled_ranges
 from .names import takers
 from .objects import Array
 from .reach import Reach, in_words
@@ -28,7 +28,8 @@ from .titles import Labels
 MOST = 4096
 """So many elements of an array are shown at once."""
 LATEST = 300
-"""So many of the latest edits are shown. With more, the text of the whole history isn't asked for."""
+"""So many of the latest edits are shown at first, and as many more each time that earlier ones are wanted. With more, the text of the
+whole history isn't asked for."""
 ASKED = 60
 """Of so many edits in sight it is asked at once who needs them, the latest first."""
 APART = 1.5
@@ -113,6 +114,8 @@ class View:
         self._news = ""  # what is told of a workbook that is there again
         self._decimals: Dict[str, int] = {}  # how many digits stand behind a point, by array
         self._cuts: Dict[str, int] = {}  # which part of a large array is shown
+        self._latest = LATEST  # so many of the latest edits are shown
+        self._guests: List[str] = []  # who else is at the desk, by name
 
     # --- a workbook that goes away
 
@@ -206,7 +209,7 @@ class View:
         """Who needs the edits in sight of which it isn't known."""
         if sight is None:
             return
-        seen = [edit.number for edit in edits[-LATEST:] if edit.was_in_force and sight.has(edit.number)]
+        seen = [edit.number for edit in edits[-self._latest :] if edit.was_in_force and sight.has(edit.number)]
         for k in seen[-ASKED:]:
             if k not in self._needs:
                 try:
@@ -235,7 +238,18 @@ class View:
             self.book.names_heard.hear()
             self._heard, self._objects = counts, None
             self._version += 1
+        self._look_for_guests()
         self._looked = time.monotonic()
+
+    def _look_for_guests(self) -> None:
+        """Who else is at the desk, where it tells of names and this session has said one; no such question stays there."""
+        names = self.book.names_heard
+        if not names.tells:
+            return
+        guests = sorted(name for seat, name in self.book.desk().names.items() if seat != names.seat)
+        if guests != self._guests:
+            self._guests = guests
+            self._version += 1
 
     def _mine(self) -> List[int]:
         """One's own edits in a shared workbook that are in force, as far as that was heard."""
@@ -246,7 +260,7 @@ class View:
         if edits <= LATEST:
             self._shot = hearing.hear_all(self.book)
         else:
-            hearing.hear_latest(self.book, edits, LATEST)
+            hearing.hear_latest(self.book, edits, self._latest)
 
     def _state(self, edits: List[Edit]) -> Json:
         if self._objects is None:
@@ -255,19 +269,20 @@ class View:
                 "domains": [
                     {"name": name, "words": harmless(shot.domains[name].in_words())} for name in sorted(shot.domains)
                 ],
-                "arrays": [self._array(shot, name) for name in sorted(shot.arrays)],
+                "arrays": [self._array(shot, name) for name in titles.last_with_titles(self.book.labels, shot)],
             }
         state: Json = {
             "alone": self.book.alone,
             "kept": harmless(self.book.journal or ""),
             "where": harmless(self.book.where),
+            "guests": [harmless(name) for name in self._guests],
             "news": harmless(self._news),
             "taken": sorted(set(self._taken)),
             "takers": {str(k): harmless(name) for k, name in takers(self.book, self._taken).items()},
             "cascaded": self._cascaded,
             **self._objects,
-            "edits": [self._edit(edit) for edit in edits[-LATEST:]],
-            "earlier": max(len(edits) - LATEST, 0),
+            "edits": [self._edit(edit) for edit in edits[-self._latest :]],
+            "earlier": max(len(edits) - self._latest, 0),
         }
         state["version"] = hashlib.sha256(json.dumps(state).encode()).hexdigest()[:16]
         return state
@@ -414,6 +429,16 @@ class View:
             raise ValueError("that is no part of an array")
         self._cuts[name] = number
 
+    def _earlier(self) -> None:
+        """Earlier edits are shown too; what became of them in a shared workbook is heard anew."""
+        self._latest += LATEST
+        self._heard = None
+        self._version += 1
+
+    def _table(self, session: Doing, asked: Json) -> None:
+        """A new array of a table that was pasted or is a file's; the elements of one that is there become those of the table."""
+        session.took(named(str(asked.get("a", "")).strip()), str(asked.get("text", "")), of="table")
+
     def _hold(self, k: int, by: int) -> None:
         """After a refused undo the page shows who is in the way."""
         try:
@@ -454,6 +479,8 @@ ACTS: Dict[str, Callable[[View, Doing, Json], None]] = {
     "leave": lambda view, session, asked: view._leave(asked),
     "paste": lambda view, session, asked: view._paste(session, asked),
     "turn": lambda view, session, asked: view._turn(asked),
+    "earlier": lambda view, session, asked: view._earlier(),
+    "table": lambda view, session, asked: view._table(session, asked),
 }
 """What the page does beside lines."""
 

@@ -2,8 +2,10 @@
 
 import argparse
 import json
+import os
 import random
 import signal
+import socket
 import sys
 import time
 import uuid
@@ -11,10 +13,12 @@ from dataclasses import dataclass
 from typing import Dict, List, Optional, Sequence, Tuple
 
 from . import keeping, log
-from .channel import Channel, command
+from .channel import Channel, called, command
 from .errors import NoProgram, SessionEnded
-from .redis import Redis, RedisGone, RedisRefused, place_of
+from .redis import Redis, RedisGone, RedisRefused, place_of, without_password
 
+REDIS = "redis://127.0.0.1:6379"
+"""Where a log is, unless something else is told."""
 BAD_REQUEST = b'{"error":"E01","name":"bad-request"}'
 NO_MEMORY = b'"error":"E90"'
 PATIENCE = 0.5
@@ -121,6 +125,10 @@ class Worker:
         self._looked_at = self._took_at = 0.0
         self._fault = ""  # why there is no log now, as it was told
         self.stopping = False
+
+    def place(self) -> str:
+        """What it is called, and where its logs stand."""
+        return f"{self._settings.consumer} looks after workbooks at {without_password(self._settings.redis)}, until Ctrl-C"
 
     def run(self) -> int:
         """Works until `stopping` is set; the exit status."""
@@ -330,11 +338,16 @@ def seconds(text: str) -> float:
 
 def settings_of(words: Optional[Sequence[str]] = None) -> Settings:
     parser = argparse.ArgumentParser(
-        prog="python3 -m workbook_client.worker",
+        prog=called("workbook_client.worker"),
         description="Answers the requests of workbooks that stand in logs in Redis, with as many other workers as there are.",
     )
-    parser.add_argument("--redis", required=True, metavar="URL", type=log_at, help="redis://[user:password@]host[:port][/number]")
-    parser.add_argument("--consumer", required=True, metavar="NAME", help="what this worker calls itself")
+    parser.add_argument(
+        "--redis", default=REDIS, metavar="URL", type=log_at, help=f"redis://[user:password@]host[:port][/number] ({REDIS})",
+    )
+    parser.add_argument(
+        "--consumer", default=f"{socket.gethostname()}-{os.getpid()}", metavar="NAME",
+        help="what this worker calls itself (the name of the machine, and the number of the process)",
+    )
     parser.add_argument("--program", help="the program, else as the client finds it")
     parser.add_argument("--lease", type=seconds, default=5.0, metavar="SECONDS", help="after so long without a word another takes over (5)")
     parser.add_argument("--most", type=int, default=1000, metavar="N", help="holds so many workbooks at most (1000)")
@@ -360,6 +373,7 @@ def main(words: Optional[Sequence[str]] = None) -> int:
 
     for told in (signal.SIGTERM, signal.SIGINT):
         signal.signal(told, stop)
+    tell(worker.place())
     return worker.run()
 
 
