@@ -5,5 +5,6 @@ pub mod Sent
 pub mod OpenedJournals
 pub mod Begun
 pub mod MadeAnew
+pub mod Judged
 pub mod Telling
 pub mod LinesLeft

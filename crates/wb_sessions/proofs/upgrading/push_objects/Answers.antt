@@ -1,4 +1,4 @@
-use Rattle.std.proofs.Common.{◌∙◌, ◌++◌, ap, refl, None, string_bytes}
+use Rattle.std.proofs.Common.{◌≡◌, ◌∙◌, ◌++◌, ℕ, List, ap, refl, None, OnOk, Result, Ok, Err, if◌then◌else◌, is_ok, string_bytes}
 use Rattle.selective_undo.specs.History.{replay}
 use Rattle.wb_history.specs.Past.{meant}
 use Rattle.wb_protocol.specs.Encoding.Text.{objects_text}
@@ -12,8 +12,13 @@ unreachable-requires c =
     let s = objects_text (replay (meant (loaded c.args.text.now))) in
     none_some s None refl (c.in-None.ensures s (c.as_str.ensures.same ∙ made_text c.args.text.now c.as_str.ensures.book))
 
-pub returns-in-Some : goal.returns-in-Some
-returns-in-Some c =
+-- what was put at the end of a text, if it was
+pushed : {X E : Type 0} (r : Result X E) (old new lines s : List ℕ) → new ≡ (if is_ok r then old ++ lines else old) → lines ≡ s → OnOk r (new ≡ old ++ s)
+pushed (Ok x) old new lines s e same = e ∙ ap (λ t. old ++ t) same
+pushed (Err x) old new lines s e same = tt
+
+pub returns : goal.returns
+returns c =
     let s = objects_text (replay (meant (loaded c.args.text.now))) in
-    c.push_str.ensures.bytes ∙ ap (λ t. string_bytes c.args.out.now ++ t)
+    pushed c.push_str.result (string_bytes c.args.out.now) (string_bytes c.push_str.new.self) c.in-Some.lines.now s c.push_str.ensures.bytes
     (some_same c.in-Some.lines.now s (c.in-Some.ensures s (c.as_str.ensures.same ∙ made_text c.args.text.now c.as_str.ensures.book)))
