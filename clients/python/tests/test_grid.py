@@ -336,7 +336,7 @@ class Grid(InABrowser):
         """A file of a spreadsheet becomes a table that is called as the file; once more, its numbers become those of the table."""
         browser = self.open(Workbook.run(PROGRAM))
         with tempfile.TemporaryDirectory() as place:
-            path = os.path.join(place, "my sales.csv")
+            path = os.path.join(place, "my\u202e sales.csv")
             for number in (3, 4):
                 with open(path, "w", encoding="utf-8") as file:
                     file.write(f"1,2\n{number},4\n")
@@ -344,7 +344,7 @@ class Grid(InABrowser):
                 node = browser.do("DOM.querySelector", nodeId=root, selector="#file")["nodeId"]
                 browser.do("DOM.setFileInputFiles", nodeId=node, files=[path])
                 browser.until("document.activeElement.value === 'mysales'")
-                self.assertIn("2 lines of my sales.csv", browser.text("#newtable"))
+                self.assertIn("2 lines of my\ufffd sales.csv", browser.text("#newtable"))
                 browser.key("Enter")
                 self.shows(browser, "mysales[2, 1]", number)
         self.assertEqual(browser.js("document.querySelectorAll('.edits li[data-k]').length"), 4)
