@@ -126,6 +126,7 @@ class Order(unittest.TestCase):
     def test_an_interruption_leaves_replies_in_step(self):
         """As by Ctrl-C, at many moments."""
         def interrupt(*_: object) -> None:
+            signal.setitimer(signal.ITIMER_REAL, 0)  # one interruption is enough, however slow the machine is
             raise KeyboardInterrupt
 
         before = signal.signal(signal.SIGALRM, interrupt)
@@ -136,7 +137,7 @@ class Order(unittest.TestCase):
             with Workbook.run(python(code)) as book:
                 while interrupted < 300:
                     try:
-                        signal.setitimer(signal.ITIMER_REAL, 0.0005 + interrupted * 0.00001, 0.2)
+                        signal.setitimer(signal.ITIMER_REAL, 0.0005 + interrupted * 0.00001, 5.0)
                         while True:
                             self.ask_one(book)
                     except KeyboardInterrupt:
@@ -224,7 +225,7 @@ class Connections(unittest.TestCase):
             with self.assertRaisesRegex(SessionEnded, "has closed the connection$"):
                 book.array("A", "D")
             book.exchange.channel._sent_at -= 300
-            with self.assertRaisesRegex(SessionEnded, "nothing was sent for 30. seconds, and a desk may end a connection that is idle"):
+            with self.assertRaisesRegex(SessionEnded, "nothing was sent for 3.. seconds, and a desk may end a connection that is idle"):
                 book.array("A", "D")
 
     def test_a_connection_that_is_cut(self):

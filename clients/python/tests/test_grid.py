@@ -336,7 +336,7 @@ class Grid(InABrowser):
         """A file of a spreadsheet becomes a table that is called as the file; once more, its numbers become those of the table."""
         browser = self.open(Workbook.run(PROGRAM))
         with tempfile.TemporaryDirectory() as place:
-            path = os.path.join(place, "my sales.csv")
+            path = os.path.join(place, "my\u202e sales.csv")
             for number in (3, 4):
                 with open(path, "w", encoding="utf-8") as file:
                     file.write(f"1,2\n{number},4\n")
@@ -344,21 +344,28 @@ class Grid(InABrowser):
                 node = browser.do("DOM.querySelector", nodeId=root, selector="#file")["nodeId"]
                 browser.do("DOM.setFileInputFiles", nodeId=node, files=[path])
                 browser.until("document.activeElement.value === 'mysales'")
-                self.assertIn("2 lines of my sales.csv", browser.text("#newtable"))
+                self.assertIn("2 lines of my\ufffd sales.csv", browser.text("#newtable"))
                 browser.key("Enter")
                 self.shows(browser, "mysales[2, 1]", number)
         self.assertEqual(browser.js("document.querySelectorAll('.edits li[data-k]').length"), 4)
         self.assertEqual(browser.faults, [])
 
     def test_headings_stay_in_sight(self):
-        browser = self.grid(range(1, 65), range(1, 41))
+        browser = self.grid(range(1, 41), range(1, 31))
         top = "document.querySelector('table tr:nth-child(1) th:nth-child(3)').getBoundingClientRect().top"
-        left = "document.querySelector('table tr:nth-child(60) th').getBoundingClientRect().left"
+        left = "document.querySelector('table tr:nth-child(38) th').getBoundingClientRect().left"
         before = (browser.js(top), browser.js(left))
-        browser.js("document.querySelector('.scroll').scrollTo(500, 500)")
+        browser.js("document.querySelector('.scroll').scrollTo(300, 300)")
         self.assertGreater(browser.js("document.querySelector('.scroll').scrollTop"), 100)
         for now, then in zip((browser.js(top), browser.js(left)), before):
             self.assertAlmostEqual(now, then, delta=1)
+        browser.click(cell("A[18, 14]"))
+        for key, end, head in (("ArrowUp", "top", "tr th:nth-child(3)"), ("ArrowLeft", "left", "tr:nth-child(9) th")):
+            for _ in range(9):
+                browser.key(key)
+            side = "bottom" if end == "top" else "right"
+            hidden = f"document.activeElement.getBoundingClientRect().{end} < document.querySelector('table {head}').getBoundingClientRect().{side} - 2"
+            self.assertFalse(browser.js(hidden), key)  # no cell is chosen behind a heading
         self.assertEqual(browser.faults, [])
 
     def test_a_large_array_has_parts(self):

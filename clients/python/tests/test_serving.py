@@ -168,6 +168,7 @@ class Desks(Files):
             ben, eva, other = desk.connect(), desk.connect(name="Eva"), desk.connect()
             out = io.StringIO()
             session = Session(ben, out)
+            ben.domain("D", range(1, 5))
             session.line("who")
             self.assertEqual(out.getvalue(), "  Eva; 2 without a name; 1 of 4 seats free\n")
             out.truncate(0), out.seek(0)
@@ -178,6 +179,7 @@ class Desks(Files):
             self.assertIn("others here hear of Ben of the shop by what you do from now on", told)
             self.assertIn("this session is called Ben of the shop, and a name is said once", told)
             self.assertTrue(told.endswith("Ben of the shop (you) and Eva; 1 without a name; 1 of 4 seats free"), told)
+            self.assertEqual([(e.who, e.by) for e in ben.history()], [("me", "")])  # also what was done before
             view = View(eva)
             state = view.state()
             self.assertEqual(state["guests"], ["Ben of the shop"])

@@ -108,7 +108,7 @@ class Names:
             return False
         name = "" if mine else doing.name or f"seat {doing.seat}"
         if doing.did == "edit":
-            edit.by = name
+            edit.by = "" if edit.who == self._book.who else name  # one's own from before one's name was said
         else:
             edit.turned_by = name
         return True

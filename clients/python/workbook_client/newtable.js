@@ -1,6 +1,6 @@
 /* A new table: of what was pasted where no cell is chosen, or of a file that was chosen or let fall on the page. */
 
-import {$, ask, button, make, state, tell} from "./talk.js";
+import {$, ask, button, harmless, make, state, tell} from "./talk.js";
 
 const root = $("newtable");
 let text = ""; // the table's text, as a spreadsheet copies or writes it
@@ -12,8 +12,9 @@ function offer(told, from) {
   const name = make("input");
   name.setAttribute("aria-label", "the name of the table");
   name.value = free();
-  const box = make("form", "", make("span", "", rows + (rows === 1 ? " line " : " lines ") + from + ", as a table called"), name,
-    make("button", "many", "make it"), button("", "leave", leave));
+  const words = harmless(rows + (rows === 1 ? " line " : " lines ") + from + ", as a table called");
+  const box = make("form", "", make("span", "", words), name, make("button", "many", "make it"),
+    button("", "leave", leave));
   box.onsubmit = e => { e.preventDefault(); makeTable(name.value.trim()); };
   box.onkeydown = e => { if (e.key === "Escape") { e.stopPropagation(); leave(); } };
   root.replaceChildren(box);
