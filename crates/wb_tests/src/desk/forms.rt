@@ -385,7 +385,7 @@ fn day_of_forms<L: Opening, R: Wait, M: Mover>(
         pass = see_difference(rt, alloc, &desk, pass, at, &other)?;
     }
     for (place, line) in &OTHERS {
-        let at = OBJECTS.len() + *place;
+        let at = OBJECTS.len().wrapping_add(*place);
         let other = others_at(alloc, pass.own(), at, Some(*line))?;
         pass = see_difference(rt, alloc, &desk, pass, at, &other)?;
     }
