@@ -28,7 +28,7 @@ use Rattle.wb_cells.specs.declared.cells.value.Value.TheVariants.{Domain, Array,
 use Rattle.wb_cells.specs.declared.values.index.Index.{Index}
 use Rattle.wb_cells.specs.declared.values.index.Index.TheVariants.{Point, Text as text_index}
 use Rattle.wb_cells.specs.Cells.{Name, Cells, Changes, cell_cmp, cell_order, index_cmp, is_same_name, state_of}
-use Rattle.wb_cells.specs.Kinds.{kind_of, is_point}
+use Rattle.wb_cells.specs.Kinds.{kind_of, is_key, is_point}
 use Rattle.wb_cells.specs.Layouts.{is_of_rank}
 use Rattle.wb_cells.specs.Locales.{mapping_in}
 use Rattle.wb_cells.specs.Shapes.{Range, indices}
@@ -116,13 +116,23 @@ has_element true v element there = refl
 has_element false v element there = absurd (true≢false (sym there ∙ ap is_some element))
 
 module _ (t : Cells) (formed : IsWellFormed t) where
+  within_ranges : (d : Name) (r : ℕ) (i : Index) → domain_at t d ≡ Some (Rectangular r) → is_some (get t (In d i)) ≡ true →
+      (rs : List Range) × IsRectangle r rs × (has (indices rs) i ≡ true)
+  within_ranges d r i is there =
+      let shape = subst (λ (k : Option DomainKind). IsShape k (get t (Shape d))) is (formed.shapes d) in
+      let inside : get t (In d i) ≡ inside_of (Some shape.0) i = formed.insides d i ∙ ap (λ (v : Option Value). inside_of (ranges_in v) i) shape.1 in
+      (shape.0, shape.2, if_present (has (indices shape.0) i) (sym (ap is_some inside) ∙ there))
+
+  within_point : (d : Name) (r : ℕ) (i : Index) → domain_at t d ≡ Some (Rectangular r) → is_some (get t (In d i)) ≡ true → is_point r i ≡ true
+  within_point d r i is there =
+      let within = within_ranges d r i is there in
+      point_within r within.0 i within.1.dimensions within.2
+
   within_form : (d : Name) (r : ℕ) (i : Index) → domain_at t d ≡ Some (Rectangular r) → is_some (get t (In d i)) ≡ true → is_of_form r i ≡ true
   within_form d r i is there =
-      let shape = subst (λ (k : Option DomainKind). IsShape k (get t (Shape d))) is (formed.shapes d) in
-      let rectangle : IsRectangle r shape.0 = shape.2 in
-      let inside : get t (In d i) ≡ inside_of (Some shape.0) i = formed.insides d i ∙ ap (λ (v : Option Value). inside_of (ranges_in v) i) shape.1 in
-      form_of_point r i rectangle.at_least_one
-      (point_within r shape.0 i rectangle.dimensions (if_present (has (indices shape.0) i) (sym (ap is_some inside) ∙ there)))
+      let within = within_ranges d r i is there in
+      let rectangle : IsRectangle r within.0 = within.1 in
+      form_of_point r i rectangle.at_least_one (point_within r within.0 i rectangle.dimensions within.2)
 
   member_of : (d : Name) (k : DomainKind) (i : Index) → domain_at t d ≡ Some k → is_some (get t (Member d i)) ≡ true →
       (v : Value) × IsMember t (Some k) i (Some v)
@@ -163,6 +173,37 @@ module _ (t : Cells) (formed : IsWellFormed t) where
       let over = a_kind (domain_at t d) kind (formed.objects b (Array d kind) (array_object (get t (Object b)) d kind is)) in
       kind_form d over.0 i l over.1 (ap (λ (j : Kind). is_some (get t (index_cell j d i))) over.2 ∙ index)
       (ap (mapping_of t d) (sym over.1) ∙ lie)
+
+  kind_key : (d : Name) (k : DomainKind) (i : Index) → domain_at t d ≡ Some k → is_some (get t (index_cell (kind_of k) d i)) ≡ true →
+      is_key (kind_of k) i ≡ true
+  kind_key d (Rectangular r) i is there = within_point d r i is there
+  kind_key d (Sparse parent r) i is there =
+      let member = member_of d (Sparse parent r) i is there in
+      let over : domain_at t parent ≡ Some (Rectangular r) =
+      formed.objects d (Domain (Sparse parent r)) (domain_object (get t (Object d)) (Sparse parent r) is) in
+      within_point parent r i over (ap is_some member.1.1)
+  kind_key d (Associative type) i is there =
+      let member = member_of d (Associative type) i is there in
+      member.1.1.0
+
+  -- where there is an element, there is the array, and the index is of its domain's kind
+  pub element_of : (b : Name) (i : Index) → is_some (get t (Element b i)) ≡ true →
+      (x : Name × Kind) × (get t (Object b) ≡ Some (Array x.0 x.1)) × (is_key x.1 i ≡ true)
+  element_of b i there = by (array_at t b) refl
+    where
+      by : (o : Option (Name × Kind)) → array_at t b ≡ o → (x : Name × Kind) × (get t (Object b) ≡ Some (Array x.0 x.1)) × (is_key x.1 i ≡ true)
+      by None is = absurd (true≢false (sym there ∙ ap is_some (none_elements t b formed is i)))
+      by (Some (d, kind)) is =
+          let object : get t (Object b) ≡ Some (Array d kind) = array_object (get t (Object b)) d kind is in
+          let index : is_index_of_array t (Some (d, kind)) i ≡ true =
+          has_element (is_index_of_array t (Some (d, kind)) i) (get t (Element b i))
+          (subst (λ (o : Option (Name × Kind)). IsElement (is_index_of_array t o i) (get t (Element b i))) is (formed.elements b i)) there in
+          let over = a_kind (domain_at t d) kind (formed.objects b (Array d kind) object) in (
+            (d, kind),
+            object,
+            subst (λ (k : Kind). is_key k i ≡ true) over.2
+                (kind_key d over.0 i over.1 (ap (λ (j : Kind). is_some (get t (index_cell j d i))) over.2 ∙ index)),
+          )
 
   object_present : (b : Name) (i : Index) (x : Option (Name × Kind)) → array_at t b ≡ x → is_some (get t (Element b i)) ≡ true → IsSome (get t (Object b))
   object_present b i None is there = absurd (true≢false (sym there ∙ ap is_some (none_elements t b formed is i)))

@@ -22,3 +22,4 @@ pub mod Whole
 pub mod Formed
 pub mod Answered
 pub mod Joining
+pub mod Replaced

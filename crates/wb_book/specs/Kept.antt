@@ -14,7 +14,7 @@ use Rattle.wb_cells.specs.declared.cells.value.Value.{Value}
 use Rattle.wb_cells.specs.declared.cells.value.Value.TheVariants.{Number}
 use Rattle.wb_elements.specs.Entries.{with_all}
 use Rattle.wb_book.specs.Joined.{element_in}
-use Rattle.wb_cells.specs.Cells.{Name, Cells, index_cmp}
+use Rattle.wb_cells.specs.Cells.{Name, Cells, Changes, index_cmp}
 
 -- an array: its elements after their indices, the mapping that they lie by, and the rank of the indices, 0 for texts
 abbrev pub Pieced : Type 0
@@ -42,6 +42,10 @@ number_in _ = None
 abbrev pub sets_at : (Name → Index → Option ℤ) → Cell → Option Value → Bool
 sets_at element (Element a i) v = is_some (number_in v) && is_some (element a i)
 sets_at element _ v = false
+
+-- the change of an element to a number
+abbrev pub element_set : Name → Index → ℤ → Changes
+element_set a i v = record { cell = Element a i; value = Some (Number v) } ∷ []
 
 -- whether a change sets an element that is there
 abbrev pub is_set : (Name → Index → Option ℤ) → Change Cell Value → Bool

@@ -304,6 +304,33 @@ pub(crate) fn change_all<V: Mover>(
     alloc: Global,
     cells: &mut BTreeMap<Cell, Value>,
     arrays: &mut BTreeMap<Name, Elements>,
+    list: &Changes,
+    mover: &V,
+) -> Result<(), MoveErr>
+    // Each cell changes once, and the changes lead from a workbook to one.
+    requires once { AllOnce cell_cmp list.now }
+    requires shelf { IsShelf cells.old arrays.old }
+    requires formed { IsWellFormed (apply list.now (cells_of cells.old arrays.old)) }
+
+    // All changes are made, or none, and the parts are a workbook's.
+    ensures ok { OnOk result (cells_of cells.new arrays.new ≡ apply list.now (cells_of cells.old arrays.old)) }
+    ensures err { OnErr result (cells_of cells.new arrays.new ≡ cells_of cells.old arrays.old) }
+    ensures shelf { IsShelf cells.new arrays.new }
+
+    // Only by a mover that may lack threads does it fail for want of one.
+    ensures no_thread { result ≡ Err MoveErr.NoThread → V.may_lack_threads mover.now }
+{
+    if keep::set_lone(arrays, list) {
+        return Ok(());
+    }
+    change_any(alloc, cells, arrays, list, mover)
+}
+
+// Makes all the changes, whatever they are, or none where the mover refuses or no memory is left.
+fn change_any<V: Mover>(
+    alloc: Global,
+    cells: &mut BTreeMap<Cell, Value>,
+    arrays: &mut BTreeMap<Name, Elements>,
     delta: &Changes,
     mover: &V,
 ) -> Result<(), MoveErr>

@@ -1,11 +1,13 @@
 //! What is kept of a workbook.
 
-ghost use Rattle.std.specs.Prelude.{◌≡◌, ℕ, List, cond, true, None, is_some, option_map, IfOk};
+ghost use Rattle.std.specs.Prelude.{◌≡◌, ℕ, List, cond, true, false, None, is_some, option_map, IfOk, IfNone};
 ghost use Rattle.std.specs.List.{list_all};
 ghost use Rattle.selective_undo.specs.Changes.{applied, apply};
 ghost use Rattle.wb_cells.specs.declared.values.index.Index.{Index};
-ghost use Rattle.std.specs.Map.{keys_of};
-ghost use Rattle.wb_cells.specs.Cells.{Cells, is_same_name};
+ghost use Rattle.std.specs.BTreeMap.{is_at};
+ghost use Rattle.std.specs.Map.{keys_of, set_value};
+ghost use Rattle.wb_arrays.specs.Elements.{value_at};
+ghost use Rattle.wb_cells.specs.Cells.{Cells, index_cmp, is_same_name};
 ghost use Rattle.wb_cells.specs.Runs.{changes_in, all_changes, packed_changes, labelled_changes};
 ghost use Rattle.wb_cells.specs.declared.values.index.Index.TheVariants.{Point as point_index};
 ghost use Rattle.wb_book.specs.Kept.{array_in, with_element, with_elements, Agree, number_in, is_set};
@@ -124,6 +126,41 @@ fn set_element(arrays: &mut BTreeMap<Name, Elements>, array: &Name, index: &AnyI
     }
 }
 
+/// Replaces the element of an array at an index, if there is one: what it was. It is looked for once.
+pub(crate) fn replace(
+    arrays: &mut BTreeMap<Name, Elements>,
+    array: &Name,
+    index: &AnyIndex,
+    value: &i64,
+) -> Option<i64>
+    ensures was { result ≡ element_in arrays.old.entries array.now index.now }
+    ensures arrays { (b : List ℕ) → array_in arrays.new.entries b ≡ cond (is_same_name array.now b)
+        (with_element (array_in arrays.old.entries b) index.now value.now) (array_in arrays.old.entries b) }
+    ensures names { keys_of arrays.new.entries ≡ keys_of arrays.old.entries }
+    ensures none { IfNone result (arrays.new.entries ≡ arrays.old.entries) }
+{
+    match arrays.get_mut(array) {
+        Some(elements) => replace_in(elements, index, value),
+        None => None,
+    }
+}
+
+// Replaces the element at an index, if there is one: what it was. The place where it was found is where it is written.
+fn replace_in(elements: &mut Elements, index: &AnyIndex, value: &i64) -> Option<i64>
+    ensures was { result ≡ value_at index_cmp elements.old.0 index.now }
+    ensures elements { elements.new ≡ (set_value (is_at (index_cmp index.now)) elements.old.0 value.now, elements.old.1) }
+{
+    let number = *value;
+    let (was, place) = elements.get_near(index, 0);
+    match was {
+        Some(_) => {
+            elements.set_near(index, number, place);
+            was
+        }
+        None => None,
+    }
+}
+
 // The number that a change sets, if it sets one.
 fn number_in(change: &CellChange) -> Option<i64>
     ensures { result ≡ number_in change.now.value }
@@ -140,6 +177,48 @@ fn number_in(change: &CellChange) -> Option<i64>
         ) => None,
         None => None,
     }
+}
+
+// Makes a change that sets an element that is there; says whether it is such a one.
+fn set_if_there(arrays: &mut BTreeMap<Name, Elements>, change: &CellChange) -> bool
+    ensures set { result ≡ is_set (element_in arrays.old.entries) change.now }
+    ensures agree { result ≡ true → (s : Cells) → Agree arrays.old.entries s → Agree arrays.new.entries (applied change.now s) }
+    ensures names { keys_of arrays.new.entries ≡ keys_of arrays.old.entries }
+    ensures lie { (b : List ℕ) → option_map (λ p. p.1) (array_in arrays.new.entries b) ≡ option_map (λ p. p.1) (array_in arrays.old.entries b) }
+    ensures left { result ≡ false → arrays.new.entries ≡ arrays.old.entries }
+{
+    match change.as_cell() {
+        Cell::Element(array, index) => match number_in(change) {
+            Some(number) => replace(arrays, array, index, &number).is_some(),
+            None => false,
+        },
+        Cell::Object(_)
+        | Cell::Shape(_)
+        | Cell::In(_, _)
+        | Cell::Member(_, _)
+        | Cell::Mapping(_)
+        | Cell::Use(_, _)
+        | Cell::Implicit(_) => false,
+    }
+}
+
+/// Makes the changes where they are one that sets an element that is there; says whether they are. The element is looked for
+/// once.
+pub(crate) fn set_lone(arrays: &mut BTreeMap<Name, Elements>, delta: &Changes) -> bool
+    ensures set { result ≡ true → list_all (is_set (element_in arrays.old.entries)) delta.now ≡ true }
+    ensures agree { result ≡ true → (s : Cells) → Agree arrays.old.entries s → Agree arrays.new.entries (apply delta.now s) }
+    ensures names { keys_of arrays.new.entries ≡ keys_of arrays.old.entries }
+    ensures lie { (b : List ℕ) → option_map (λ p. p.1) (array_in arrays.new.entries b) ≡ option_map (λ p. p.1) (array_in arrays.old.entries b) }
+    ensures left { result ≡ false → arrays.new.entries ≡ arrays.old.entries }
+{
+    let (first, runs) = delta.parts();
+    let Some(first) = first else {
+        return false;
+    };
+    if !runs.is_empty() {
+        return false;
+    }
+    set_if_there(arrays, &first)
 }
 
 // Whether a change sets an element that is there.

@@ -1,6 +1,9 @@
-ghost use Rattle.std.specs.Prelude.{◌≡◌, IfOk, IfErr, OnOk, OnErr, Err};
+ghost use Rattle.std.specs.Prelude.{◌≡◌, IfOk, IfErr, OnOk, OnErr, Err, IfSome, IfNone, IsSome, option_map};
 ghost use Rattle.selective_undo.specs.Changes.{apply, inverse, AllOnce};
 ghost use Rattle.wb_cells.specs.Cells.{cell_cmp, written_more, count_of};
+ghost use Rattle.wb_cells.specs.declared.cells.cell.Cell.TheVariants.{Element};
+ghost use Rattle.wb_cells.specs.declared.cells.value.Value.TheVariants.{Number};
+ghost use Rattle.wb_book.specs.Kept.{element_set};
 ghost use Rattle.wb_cells.specs.Readers.{elements, seen};
 ghost use Rattle.wb_cells.specs.WellFormed.{IsWellFormed};
 ghost use Rattle.std.specs.FinMap as map;
@@ -99,6 +102,30 @@ impl Book {
         // For the proof: the invariant, which speaks of the cells too.
         let _ = &self.cells;
         looks::elements(self.alloc, &self.arrays, name)
+    }
+
+    /// Replaces the element of an array at an index, if there is one: what it was. Else nothing changes.
+    pub fn replace(&mut self, array: &Name, index: &AnyIndex, value: i64) -> Option<i64>
+        // Where the element is there, the change leads to a well-formed workbook.
+        requires { IsSome (map.get self.old.cells (Element array.now index.now)) → IsWellFormed (apply (element_set array.now index.now value) self.old.cells) }
+
+        // What it was, the cells, and how many were set so far.
+        ensures was { map.get self.old.cells (Element array.now index.now) ≡ option_map Number result }
+        ensures cells { IfSome result (λ was. self.new.cells ≡ apply (element_set array.now index.now value) self.old.cells) }
+        ensures writes { IfSome result (λ was. self.new.writes ≡ written_more self.old.writes 1) }
+
+        // Where there is no element, nothing has changed.
+        ensures none { IfNone result (self.new ≡ self.old) }
+    {
+        // For the proof: the invariant, which speaks of the cells too.
+        let _ = &self.cells;
+        match keep::replace(&mut self.arrays, array, index, &value) {
+            Some(was) => {
+                self.writes = self.writes.saturating_add(1);
+                Some(was)
+            }
+            None => None,
+        }
     }
 
     // Makes the changes, or none where the mover refuses or no memory is left.

@@ -28,7 +28,7 @@ pub use crate::changes::rectangle::RectangleChanges;
 pub use crate::changes::row::Row;
 pub use crate::changes::run::{ChangeRun, Form};
 pub use crate::reads::ReadRun;
-pub use crate::refusal::Refusal;
+pub use crate::refusal::{EditRefusal, Refusal};
 pub use crate::values::index::{AnyIndex, Index, coordinates_of};
 pub use crate::values::layout::{AnyLayout, Laid};
 pub use crate::values::name::{BadName, Name};

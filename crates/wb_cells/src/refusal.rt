@@ -62,3 +62,35 @@ impl Refusal {
         }
     }
 }
+
+/// Why an edit is refused, and where.
+#[derive(Clone, Copy, Debug, PartialEq, Eq, Error)]
+#[error("{why}")]
+pub struct EditRefusal {
+    /// Why its command is refused, or the first one that is, where it has several.
+    pub why: Refusal,
+    /// The place of that command, from 0, where the edit has several.
+    pub at: Option<u16>,
+}
+
+impl EditRefusal {
+    /// Whether the refusals are equal.
+    pub fn is_same(self, other: EditRefusal) -> bool
+        ensures { Decides result (self ≡ other) }
+    {
+        if !self.why.is_same(other.why) {
+            return false;
+        }
+        are_same_places(self.at, other.at)
+    }
+}
+
+fn are_same_places(at: Option<u16>, other: Option<u16>) -> bool
+    ensures { Decides result (at ≡ other) }
+{
+    match (at, other) {
+        (None, None) => true,
+        (Some(place), Some(by)) => place == by,
+        _ => false,
+    }
+}

@@ -12,6 +12,7 @@ use Rattle.wb_protocol.specs.declared.requests.request.Request.{Request}
 use Rattle.wb_protocol.specs.declared.requests.request.Request.TheVariants.{Change, Undo, Redo, Cascade, Dependents, Ask, Print, History, Edits, Explain}
 use Rattle.wb_desk.specs.Entries.{is_entered, is_long, leaves_all, cascade_in}
 use Rattle.wb_cells.specs.Cells.{Name}
+use Rattle.wb_edit.specs.declared.command.Command.TheVariants as commands
 use Rattle.wb_edit.specs.declared.edit.Edit.TheVariants as edits
 use Rattle.wb_desk.specs.declared.brief.Brief.{Brief}
 use Rattle.wb_desk.specs.declared.brief.Brief.TheVariants.{Set, SetPair, Get, GetPair, GetTriple, Where, WherePair, WhereTriple, Size, Reduce, Piece}
@@ -294,8 +295,8 @@ question_leaves p asked (Redone k n) q question s = redone_is_no_question p aske
 
 -- Of what is asked of a name only a new value that was accepted changes the history.
 pub brief_leaves : (p : Past) (a : Name) (b : Brief) (r : Reply) (q : Past) → Step p (request_of a b) r q → (is_edited r && is_new_value b) ≡ false → q ≡ p
-brief_leaves p a (Set i v) r q s off = change_leaves p (edits.Set a (point_of (i ∷ [])) v) r q s (not_edited r off)
-brief_leaves p a (SetPair i j v) r q s off = change_leaves p (edits.Set a (point_of (i ∷ j ∷ [])) v) r q s (not_edited r off)
+brief_leaves p a (Set i v) r q s off = change_leaves p (edits.Command (commands.Set a (point_of (i ∷ [])) v)) r q s (not_edited r off)
+brief_leaves p a (SetPair i j v) r q s off = change_leaves p (edits.Command (commands.Set a (point_of (i ∷ j ∷ [])) v)) r q s (not_edited r off)
 brief_leaves p a (Get i) r q s off = question_leaves p (request_of a (Get i)) r q refl s
 brief_leaves p a (GetPair i j) r q s off = question_leaves p (request_of a (GetPair i j)) r q refl s
 brief_leaves p a (GetTriple i j k) r q s off = question_leaves p (request_of a (GetTriple i j k)) r q refl s

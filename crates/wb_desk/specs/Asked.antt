@@ -2,6 +2,7 @@
 use Rattle.std.specs.Prelude.{Bool, true, false, None, Some}
 use Rattle.wb_cells.specs.Cells.{Name}
 use Rattle.wb_cells.specs.declared.values.index.Index.{Index}
+use Rattle.wb_edit.specs.Trees.{plain}
 use Rattle.wb_history.specs.declared.query.Answer.TheVariants as answers
 use Rattle.wb_history.specs.declared.query.Query.TheVariants as queries
 use Rattle.wb_log.specs.declared.refusal.Refusal.TheVariants as refusals
@@ -47,5 +48,5 @@ request_at d i (NoLocale why) = asked.Ask (queries.Where d i)
 abbrev pub reply_at : Told → Reply
 reply_at (Element v) = replies.Answered (answers.Value v)
 reply_at (Locale l) = replies.Answered (answers.Locale l)
-reply_at (NoElement why) = replies.Refused (refusals.Refused why)
-reply_at (NoLocale why) = replies.Refused (refusals.Refused why)
+reply_at (NoElement why) = replies.Refused (refusals.Refused (plain why))
+reply_at (NoLocale why) = replies.Refused (refusals.Refused (plain why))

@@ -3,6 +3,7 @@ use Rattle.std.specs.Prelude.{Bool, true, false, ℤ, List, [], ◌∷◌}
 use Rattle.wb_cells.specs.Cells.{Name}
 use Rattle.wb_cells.specs.declared.values.index.Index.{Index}
 use Rattle.wb_cells.specs.declared.values.index.Index.TheVariants.{Point}
+use Rattle.wb_edit.specs.declared.command.Command.TheVariants as commands
 use Rattle.wb_edit.specs.declared.edit.Edit.TheVariants as edits
 use Rattle.wb_history.specs.declared.query.Query.TheVariants as queries
 use Rattle.wb_protocol.specs.declared.requests.request.Request.{Request}
@@ -24,7 +25,7 @@ coordinates_in (Triple i j k) = i ∷ j ∷ k ∷ []
 
 -- a new value of an element, and a question for one or for its locale
 abbrev pub set_of : Name → List ℤ → ℤ → Request
-set_of a k v = Change (edits.Set a (point_of k) v)
+set_of a k v = Change (edits.Command (commands.Set a (point_of k) v))
 
 abbrev pub get_of : Name → List ℤ → Request
 get_of a k = Ask (queries.Get a (point_of k))

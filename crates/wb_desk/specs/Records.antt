@@ -3,6 +3,7 @@ use Rattle.std.specs.Prelude.{◌≡◌, ℕ, ◌<◌, Bool, true, false, List, 
 use Rattle.std.specs.List.{All}
 use Rattle.std.specs.Arc.{arc_value}
 use Rattle.wb_cells.specs.Cells.{Name}
+use Rattle.wb_edit.specs.Trees.{plain}
 use Rattle.wb_history.specs.declared.query.Answer.{Answer}
 use Rattle.wb_history.specs.declared.query.Answer.TheVariants as answers
 use Rattle.wb_history.specs.declared.query.Query.TheVariants as queries
@@ -60,7 +61,7 @@ shown seat names (Size p n) = answered seat (name_at names p) briefs.Size (answe
 shown seat names (Reduce p op v) = answered seat (name_at names p) (briefs.Reduce op) (answers.Value v)
 shown seat names (State k b) = record { seat = seat; request = Ask (queries.State k); reply = Answered (answers.InForce b) }
 shown seat names (Count n w) = record { seat = seat; request = Edits; reply = Counted n w }
-shown seat names (Denied p why b) = told seat (name_at names p) b (Refused (refusals.Refused why))
+shown seat names (Denied p why b) = told seat (name_at names p) b (Refused (refusals.Refused (plain why)))
 shown seat names (AtIndex p t i) = record { seat = seat; request = request_at (name_at names p) (arc_value i) t; reply = reply_at t }
 shown seat names (OnLocale p l r) = told seat (name_at names p) (briefs.Piece l) (arc_value r)
 shown seat names (Unanswered q why) = record { seat = seat; request = plain_request q; reply = Refused why }

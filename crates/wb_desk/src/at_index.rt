@@ -2,11 +2,13 @@
 
 ghost use Rattle.std.specs.Prelude.{◌≡◌, ℕ, List, IfSome};
 ghost use Rattle.wb_cells.specs.declared.values.index.Index.{Index as any_index};
+ghost use Rattle.wb_edit.specs.Trees.{plain};
 ghost use Rattle.wb_history.specs.declared.query.Query.TheVariants as queries;
+ghost use Rattle.wb_log.specs.declared.refusal.Refusal.TheVariants.{Refused};
 ghost use Rattle.wb_protocol.specs.declared.requests.request.Request.TheVariants as asked;
 ghost use Rattle.wb_desk.specs.Asked.{reply_at, request_at};
 
-use wb_cells::{AnyIndex, Name, Refusal as WhyRefused};
+use wb_cells::{AnyIndex, EditRefusal, Name, Refusal as WhyRefused};
 use wb_history::{Answer, Query, Refusal};
 use wb_protocol::{Reply, Request};
 
@@ -38,7 +40,9 @@ fn element_told(reply: &Reply) -> Option<Told>
 {
     match reply {
         Reply::Answered(Answer::Value(value)) => Some(Told::Element(*value)),
-        Reply::Refused(Refusal::Refused(why)) => Some(Told::NoElement(*why)),
+        Reply::Refused(Refusal::Refused(EditRefusal { why, at: None })) => {
+            Some(Told::NoElement(*why))
+        }
         _ => None,
     }
 }
@@ -50,7 +54,9 @@ fn locale_told(reply: &Reply) -> Option<Told>
 {
     match reply {
         Reply::Answered(Answer::Locale(locale)) => Some(Told::Locale(*locale)),
-        Reply::Refused(Refusal::Refused(why)) => Some(Told::NoLocale(*why)),
+        Reply::Refused(Refusal::Refused(EditRefusal { why, at: None })) => {
+            Some(Told::NoLocale(*why))
+        }
         _ => None,
     }
 }
@@ -93,7 +99,11 @@ fn query_at(query: &Query, reply: &Reply) -> Option<AskedAt>
     match query {
         Query::Get(array, at) => element_at(array, at, reply),
         Query::Where(domain, at) => locale_at(domain, at, reply),
-        Query::Size(_) | Query::Piece(_, _) | Query::Reduce(_, _) | Query::State(_) => None,
+        Query::Size(_)
+        | Query::Piece(_, _)
+        | Query::Reduce(_, _)
+        | Query::State(_)
+        | Query::Note(_) => None,
     }
 }
 
@@ -128,6 +138,13 @@ pub(crate) fn request_at(name: Name, at: &AnyIndex, told: &Told) -> Request
     }
 }
 
+/// The refusal of a question, which has no place.
+pub(crate) fn of_edit(why: WhyRefused) -> Refusal
+    ensures { result ≡ Refused (plain why) }
+{
+    Refusal::Refused(EditRefusal { why, at: None })
+}
+
 /// Its reply.
 pub(crate) fn reply_at(told: &Told) -> Reply
     ensures { result ≡ reply_at told.now }
@@ -135,7 +152,7 @@ pub(crate) fn reply_at(told: &Told) -> Reply
     match told {
         Told::Element(value) => Reply::Answered(Answer::Value(*value)),
         Told::Locale(locale) => Reply::Answered(Answer::Locale(*locale)),
-        Told::NoElement(why) => Reply::Refused(Refusal::Refused(*why)),
-        Told::NoLocale(why) => Reply::Refused(Refusal::Refused(*why)),
+        Told::NoElement(why) => Reply::Refused(of_edit(*why)),
+        Told::NoLocale(why) => Reply::Refused(of_edit(*why)),
     }
 }

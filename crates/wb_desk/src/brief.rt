@@ -1,6 +1,7 @@
 //! What is asked of an array or a domain, in numbers.
 
 ghost use Rattle.std.specs.Prelude.{◌≡◌, ℕ, List, [], ◌∷◌, IfSome};
+ghost use Rattle.wb_edit.specs.declared.command.Command.TheVariants as commands;
 ghost use Rattle.wb_edit.specs.declared.edit.Edit.TheVariants as edits;
 ghost use Rattle.wb_protocol.specs.declared.requests.request.Request.TheVariants as asked;
 ghost use Rattle.wb_history.specs.declared.query.Query.TheVariants as queries;
@@ -8,7 +9,7 @@ ghost use Rattle.wb_desk.specs.Briefs.{coordinates_in, point_of, request_of, set
 
 use wb_arrays::Op;
 use wb_cells::{AnyIndex, Index, Name, Point};
-use wb_edit::Edit;
+use wb_edit::{Command, Edit};
 use wb_history::Query;
 use wb_protocol::Request;
 
@@ -92,7 +93,7 @@ fn set_pair(i: &i64, j: &i64, value: &i64) -> Option<Brief>
 
 // A new value of an element.
 fn set_brief(at: &AnyIndex, value: &i64) -> Option<Brief>
-    ensures { IfSome result (λ b. (a : List ℕ) → request_of a b ≡ asked.Change (edits.Set a at.now value.now)) }
+    ensures { IfSome result (λ b. (a : List ℕ) → request_of a b ≡ asked.Change (edits.Command (commands.Set a at.now value.now))) }
 {
     match spot_of(at) {
         Some(Spot::Single(i)) => Some(Brief::Set(i, *value)),
@@ -142,7 +143,7 @@ fn query_brief(query: &Query) -> Option<(Name, Brief)>
         Query::Size(domain) => Some((*domain, Brief::Size)),
         Query::Reduce(array, op) => Some((*array, Brief::Reduce(*op))),
         Query::Piece(array, locale) => Some((*array, Brief::Piece(*locale))),
-        Query::State(_) => None,
+        Query::State(_) | Query::Note(_) => None,
     }
 }
 
@@ -151,7 +152,7 @@ fn edit_brief(edit: &Edit) -> Option<(Name, Brief)>
     ensures { IfSome result (λ p. request_of p.0 p.1 ≡ asked.Change edit.now) }
 {
     match edit {
-        Edit::Set(array, at, value) => match set_brief(at, value) {
+        Edit::Command(Command::Set(array, at, value)) => match set_brief(at, value) {
             Some(brief) => Some((*array, brief)),
             None => None,
         },
@@ -203,10 +204,14 @@ pub(crate) fn request_of(name: Name, brief: &Brief) -> Request
     ensures { result ≡ request_of name brief.now }
 {
     match brief {
-        Brief::Set(i, value) => Request::Change(Edit::Set(name, single(i), *value)),
+        Brief::Set(i, value) => Request::Change(Edit::Command(Command::Set(
+            name,
+            single(i),
+            *value,
+        ))),
         Brief::SetPair(i, j, value) => {
             let at = pair(&i64::from(*i), &i64::from(*j));
-            Request::Change(Edit::Set(name, at, *value))
+            Request::Change(Edit::Command(Command::Set(name, at, *value)))
         }
         Brief::Get(i) => Request::Ask(Query::Get(name, single(i))),
         Brief::GetPair(i, j) => Request::Ask(Query::Get(name, pair(i, j))),

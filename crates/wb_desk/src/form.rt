@@ -8,14 +8,14 @@ ghost use Rattle.wb_desk.specs.Briefs.{request_of, is_new_value};
 ghost use Rattle.wb_desk.specs.Records.{IsWithin, is_edited, lent_entry, name_at, shown};
 ghost use Rattle.wb_desk.specs.Serving.{entry};
 
-use crate::at_index::{Told, reply_at, request_at};
+use crate::at_index::{Told, of_edit, reply_at, request_at};
 use crate::brief::{Brief, request_of};
 use crate::entry::{Entry, LentEntry, LineReply};
 use crate::plain::{Plain, plain_request};
 use std::alloc::Global;
 use std::sync::Arc;
 use wb_arrays::Op;
-use wb_cells::{AnyIndex, Name, Refusal as WhyRefused};
+use wb_cells::{AnyIndex, EditRefusal, Name, Refusal as WhyRefused};
 use wb_history::{Answer, Query, Refusal};
 use wb_protocol::{Reply, Request};
 
@@ -157,7 +157,7 @@ fn answered_form(place: u16, brief: &Brief, answer: &Answer) -> Option<Form>
         Answer::Value(value) => value_form(place, brief, value),
         Answer::Locale(locale) => locale_form(place, brief, locale),
         Answer::Size(size) => size_form(place, brief, size),
-        Answer::Piece(_) | Answer::InForce(_) => None,
+        Answer::Piece(_) | Answer::InForce(_) | Answer::Note(_) => None,
     }
 }
 
@@ -167,8 +167,9 @@ fn denied_form(place: u16, brief: &Brief, why: &Refusal) -> Option<Form>
     ensures within { IfSome result (λ f. (most : ℕ) → place < most → IsWithin most f) }
 {
     match why {
-        Refusal::Refused(why) => Some(Form::Denied(place, *why, *brief)),
-        Refusal::BadRequest
+        Refusal::Refused(EditRefusal { why, at: None }) => Some(Form::Denied(place, *why, *brief)),
+        Refusal::Refused(_)
+        | Refusal::BadRequest
         | Refusal::BadLiteral
         | Refusal::NoSuchEdit
         | Refusal::NotInForce
@@ -368,7 +369,7 @@ pub(crate) fn shown<'f>(seat: usize, names: &[Name], form: &'f Form) -> LentEntr
             reply: Reply::Counted(*edits, u128::from(*writes)),
         }),
         Form::Denied(place, why, brief) => {
-            let reply = Reply::Refused(Refusal::Refused(*why));
+            let reply = Reply::Refused(of_edit(*why));
             LentEntry::Own(made(seat, name_at(names, *place), *brief, reply))
         }
         Form::AtIndex(place, told, at) => {

@@ -34,7 +34,8 @@ fn plain_query(query: &Query) -> Option<Plain>
         | Query::Size(_)
         | Query::Where(_, _)
         | Query::Piece(_, _)
-        | Query::Reduce(_, _) => None,
+        | Query::Reduce(_, _)
+        | Query::Note(_) => None,
     }
 }
 

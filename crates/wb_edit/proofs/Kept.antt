@@ -25,4 +25,4 @@ pub mod ReshapeSet
 pub mod Reshape
 pub mod Load
 pub mod EachCommand
-pub use Rattle.wb_edit.proofs.Kept.EachCommand.{keeps_well_formed}
+pub use Rattle.wb_edit.proofs.Kept.EachCommand.{command_keeps}

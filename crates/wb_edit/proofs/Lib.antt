@@ -19,3 +19,6 @@ pub mod Kept
 pub mod Once
 pub mod Ranges
 pub mod Numbered
+pub mod InTurn
+pub mod OfAll
+pub mod EachEdit

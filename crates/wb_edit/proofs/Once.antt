@@ -34,8 +34,8 @@ use Rattle.wb_edit.specs.declared.asked_numbers.AskedNumbers.{AskedNumbers}
 use Rattle.wb_edit.specs.declared.asked_numbers.AskedNumbers.TheVariants.{Rectangle as numbered, Indices as set_numbered}
 use Rattle.wb_edit.specs.ValidNumbers.{AreAskedOnce}
 use Rattle.wb_edit.specs.declared.asked_rectangle.AskedRectangle.TheVariants.{Ranges, Indices}
-use Rattle.wb_edit.specs.declared.edit.Edit.TheVariants.{Domain, Remap, Sparse, Assoc, Array, Set, Irv, Copy, Fill, Put, FillAll, DropArray, All, Add, Remove}
-use Rattle.wb_edit.specs.declared.edit.Edit.TheVariants.{DropDomain, Reshape, Load}
+use Rattle.wb_edit.specs.declared.command.Command.TheVariants.{Domain, Remap, Sparse, Assoc, Array, Set, Irv, Copy, Fill, Put, FillAll, DropArray, All, Add, Remove}
+use Rattle.wb_edit.specs.declared.command.Command.TheVariants.{DropDomain, Reshape}
 use Rattle.wb_edit.specs.declared.operation.Operation.{Operation}
 use Rattle.wb_cells.specs.declared.refusal.Refusal.TheVariants.{WrongKind}
 use Rattle.wb_edit.specs.Changed.{set_all}
@@ -45,9 +45,9 @@ use Rattle.wb_edit.specs.Commands.{drop_array, number_cells, all_results, all, d
 use Rattle.wb_edit.specs.Elements.{elements, same_domain, results, all_within, over_one_domain}
 use Rattle.wb_edit.specs.Implicit.{has_implicit, parent_in, implicit_value, implicit_inside, implicit_at, or_implicit, element_or_implicit}
 use Rattle.wb_edit.specs.Kinds.{rank_of, is_sparse, rectangular, over_sparse}
-use Rattle.wb_edit.specs.Laws.{EachCellOnce}
+use Rattle.wb_edit.specs.Laws.{CommandWritesOnce}
 use Rattle.wb_edit.specs.Layouts.{for_rank, mapped}
-use Rattle.wb_edit.specs.Trees.{Tree, read, judged}
+use Rattle.wb_edit.specs.Trees.{Tree, read, judged, plain}
 use Rattle.wb_edit.specs.Objects.{is_empty}
 use Rattle.wb_edit.specs.Numbers.{element_or_refusal, fits_integer, sum}
 use Rattle.wb_edit.specs.Rectangles.{of_rank, all_there, over_rectangle, all_elements}
@@ -163,7 +163,7 @@ numbers_once s a kind on vs once =
     once_judged s (all_there (map (get s) (map (Element a) (indices on)))) (λ y. last) (λ y _. once_numbered a (indices on) vs once)))
 
 put_once : (s : Cells) (a : Name) (asked : AskedNumbers) → AreAskedOnce asked → Once (put a asked) s
-put_once s a set_numbered once = once_test s (Object a) array_kind (λ over. refuse WrongKind) (λ over _. tt)
+put_once s a set_numbered once = once_test s (Object a) array_kind (λ over. refuse (plain WrongKind)) (λ over _. tt)
 put_once s a (numbered r) once =
     once_test s (Object a) array_kind (λ array. put_numbers a array.1 r.0 r.1) (λ array _. numbers_once s a array.1 r.0 r.1 once)
 
@@ -247,29 +247,28 @@ drop_domain_once s d h =
     once_judged s (is_unused (users s d)) (λ x. domain_indices d kind (last kind)) (λ x _.
     once_indices s h d kind (last kind) (λ is listed. once_ended d kind is listed)))
 
-load_once : (s : Cells) (text : List ℕ) → Once (load text) s
+pub load_once : (s : Cells) (text : List ℕ) → Once (load text) s
 load_once s text =
     once_judged s (is_empty (seen workbook Objects s)) (λ x. write (book_cells (cells_in text))) (λ x ok.
     puts_once (entries (cells_in text)) (entries_sorted (cells_in text)))
 
-pub each_cell_once : EachCellOnce
-each_cell_once (Domain d (Ranges rs) m) s valid once h = new_domain_once s d rs m (rectangle_once (length rs) rs valid.1)
-each_cell_once (Domain d Indices m) s valid once h = once_test s (Object d) is_free (λ x. refuse WrongKind) (λ x _. tt)
-each_cell_once (Remap d m) s valid once h = remap_once s d m
-each_cell_once (Sparse d parent) s valid once h = sparse_once s d parent
-each_cell_once (Assoc d type) s valid once h = assoc_once s d type
-each_cell_once (Array a d) s valid once h = new_array_once s a d h
-each_cell_once (Set a i v) s valid once h = set_once s a i v
-each_cell_once (Irv a v) s valid once h = irv_once s a v
-each_cell_once (Copy a i b j c) s valid once h = copy_once s a i b j c
-each_cell_once (Fill a (Ranges on) v) s valid once h = fill_once s a on v once
-each_cell_once (Fill a Indices v) s valid once h = once_test s (Object a) array_kind (λ over. refuse WrongKind) (λ over _. tt)
-each_cell_once (Put a asked) s valid once h = put_once s a asked once
-each_cell_once (FillAll a v) s valid once h = fill_all_once s a v
-each_cell_once (DropArray a) s valid once h = drop_array_once s a
-each_cell_once (All a how b) s valid once h = all_once s a how b
-each_cell_once (Add d i) s valid once h = member_once s d i (λ there kind. add_unless there d kind i) (λ there kind. add_unless_once s there d kind i)
-each_cell_once (Remove d i) s valid once h = member_once s d i (λ there kind. remove_if there d kind i) (λ there kind. remove_if_once s there d kind i)
-each_cell_once (DropDomain d) s valid once h = drop_domain_once s d h
-each_cell_once (Reshape d source) s valid once h = reshape_once s d source valid once h
-each_cell_once (Load text) s valid once h = load_once s text
+pub command_once : CommandWritesOnce
+command_once (Domain d (Ranges rs) m) s valid once h = new_domain_once s d rs m (rectangle_once (length rs) rs valid.1)
+command_once (Domain d Indices m) s valid once h = once_test s (Object d) is_free (λ x. refuse (plain WrongKind)) (λ x _. tt)
+command_once (Remap d m) s valid once h = remap_once s d m
+command_once (Sparse d parent) s valid once h = sparse_once s d parent
+command_once (Assoc d type) s valid once h = assoc_once s d type
+command_once (Array a d) s valid once h = new_array_once s a d h
+command_once (Set a i v) s valid once h = set_once s a i v
+command_once (Irv a v) s valid once h = irv_once s a v
+command_once (Copy a i b j c) s valid once h = copy_once s a i b j c
+command_once (Fill a (Ranges on) v) s valid once h = fill_once s a on v once
+command_once (Fill a Indices v) s valid once h = once_test s (Object a) array_kind (λ over. refuse (plain WrongKind)) (λ over _. tt)
+command_once (Put a asked) s valid once h = put_once s a asked once
+command_once (FillAll a v) s valid once h = fill_all_once s a v
+command_once (DropArray a) s valid once h = drop_array_once s a
+command_once (All a how b) s valid once h = all_once s a how b
+command_once (Add d i) s valid once h = member_once s d i (λ there kind. add_unless there d kind i) (λ there kind. add_unless_once s there d kind i)
+command_once (Remove d i) s valid once h = member_once s d i (λ there kind. remove_if there d kind i) (λ there kind. remove_if_once s there d kind i)
+command_once (DropDomain d) s valid once h = drop_domain_once s d h
+command_once (Reshape d source) s valid once h = reshape_once s d source valid once h

@@ -24,6 +24,7 @@ use Rattle.wb_cells.specs.Kinds.{kind_of}
 use Rattle.wb_cells.specs.Readers.{elements}
 use Rattle.wb_cells.specs.WellFormed.{IsWellFormed, IsElement, array_in, domain_at, array_at, is_index_of_array}
 use Rattle.wb_edit.specs.declared.operation.Operation.{Operation}
+use Rattle.wb_cells.specs.declared.refusal.EditRefusal.{EditRefusal}
 use Rattle.wb_cells.specs.declared.refusal.Refusal.{Refusal}
 use Rattle.wb_cells.specs.declared.refusal.Refusal.TheVariants.{Overflow}
 use Rattle.wb_edit.specs.declared.attempt_err.AttemptErr.{AttemptErr}
@@ -94,7 +95,7 @@ same_indices s a b h alike =
 
 -- ---- that two arrays are over one domain, by what was seen
 
-abbrev shown_in : Result Changes Refusal → Option (Name × Kind)
+abbrev shown_in : Result Changes EditRefusal → Option (Name × Kind)
 shown_in (Ok (x ∷ xs)) = array_in x.value
 shown_in (Ok []) = None
 shown_in (Err why) = None

@@ -38,6 +38,6 @@ pub use Rattle.wb_edit.specs.Commands.Reshape.{reshape}
 pub use Rattle.wb_edit.specs.Commands.Add.{add_unless, add}
 pub use Rattle.wb_edit.specs.Commands.Remove.{left, remove_if, remove}
 pub use Rattle.wb_edit.specs.Commands.Load.{book_cells, load}
-pub use Rattle.wb_edit.specs.Commands.Meaning.{meaning}
+pub use Rattle.wb_edit.specs.Commands.Meaning.{command_meaning}
 pub use Rattle.wb_edit.specs.Resizing.{resized}
 pub use Rattle.wb_reshape.specs.Dropped.{cells_beside_indices, dropped_domain_cells}

@@ -18,4 +18,7 @@ pub mod Changed
 pub mod ValidNumbers
 pub mod ValidSources
 pub mod Valid
+pub mod Several
+pub mod Transactions
+pub mod Edits
 pub mod Laws

@@ -18,7 +18,7 @@ use Rattle.wb_cells.specs.declared.refusal.Refusal.{Refusal}
 use Rattle.wb_cells.specs.declared.values.index.Index.{Index}
 use Rattle.wb_cells.specs.Shapes.{indices}
 use Rattle.wb_cells.specs.WellFormed.{index_cell}
-use Rattle.wb_edit.specs.Trees.{Tree, Look}
+use Rattle.wb_edit.specs.Trees.{Tree, Look, plain}
 
 -- A plan is what the tree says of the cells: the changes, or the refusal; the reads in their order; and how many cells change,
 -- the cells `In` aside. Nothing is said where no memory was left.
@@ -32,7 +32,7 @@ IsPlan e s (Err PlanNoMemory) = ⊤
 -- an attempt comes out as the tree does, and adds what it reads
 abbrev pub Attempts : Tree → Cells → List Pattern → Result Changes AttemptErr → List Pattern → Type 0
 Attempts e s rs (Ok xs) ss = (outcome e s ≡ Ok xs) × (ss ≡ rs ++ reads e s)
-Attempts e s rs (Err (AttemptRefused why)) ss = (outcome e s ≡ Err why) × (ss ≡ rs ++ reads e s)
+Attempts e s rs (Err (AttemptRefused why)) ss = (outcome e s ≡ Err (plain why)) × (ss ≡ rs ++ reads e s)
 Attempts e s rs (Err AttemptNoMemory) ss = ⊤
 
 -- whatever comes next, a look goes on with x
@@ -41,7 +41,7 @@ Gives t s rs x ss = (next : _ → Tree) → (outcome (t next) s ≡ outcome (nex
 
 -- whatever comes next, a look refuses the edit
 abbrev pub Refuses : {X : Type 0} → Look X → Cells → List Pattern → Refusal → List Pattern → Type 0
-Refuses t s rs why ss = (next : _ → Tree) → (outcome (t next) s ≡ Err why) × (ss ≡ rs ++ reads (t next) s)
+Refuses t s rs why ss = (next : _ → Tree) → (outcome (t next) s ≡ Err (plain why)) × (ss ≡ rs ++ reads (t next) s)
 
 -- a look comes out as its tree does
 abbrev pub Looks : {X : Type 0} → Look X → Cells → List Pattern → Result X AttemptErr → List Pattern → Type 0

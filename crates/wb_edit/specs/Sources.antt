@@ -18,7 +18,7 @@ use Rattle.wb_reshape.specs.declared.new_indices.Displacement.{Displacement}
 use Rattle.wb_reshape.specs.Sources.{displaced, can_displace}
 use Rattle.wb_cells.specs.declared.refusal.Refusal.{Refusal}
 use Rattle.wb_cells.specs.declared.refusal.Refusal.TheVariants.{WrongKind, TooLarge}
-use Rattle.wb_edit.specs.Trees.{Look, ◌>>=◌, judged}
+use Rattle.wb_edit.specs.Trees.{Look, ◌>>=◌, judged, plain}
 use Rattle.wb_edit.specs.Rectangles.{of_rank}
 use Rattle.wb_edit.specs.Reshaping.{shape}
 use Rattle.wb_edit.specs.Looks.{domain_named, members}
@@ -79,13 +79,13 @@ names_rectangle rank e next = do
 -- a rectangle of the rank is given: a literal, or a rectangular domain, whose object is looked at
 abbrev pub gives_rectangle : (rank : ℕ) → Operand → Look (Unit {0})
 gives_rectangle rank (Rectangle rs) next = judged (same_rank rank (length rs)) next
-gives_rectangle rank (Items is) next = refuse WrongKind
+gives_rectangle rank (Items is) next = refuse (plain WrongKind)
 gives_rectangle rank (Named e) next = names_rectangle rank e next
 
 -- the ranges that are given: looks at those of the domain that is named. A set has none, and is refused before
 abbrev pub ranges_given : Operand → Look (List Range)
 ranges_given (Rectangle rs) next = next rs
-ranges_given (Items is) next = refuse WrongKind
+ranges_given (Items is) next = refuse (plain WrongKind)
 ranges_given (Named e) next = shape e next
 
 -- a domain like one of the kind: looks at its object
@@ -96,12 +96,12 @@ names_set kind e next = do
 
 -- a set for a domain of the kind is given: a literal of such indices, or a domain like it, whose object is looked at
 abbrev pub gives_set : Kind → Operand → Look (Unit {0})
-gives_set kind (Rectangle rs) next = refuse WrongKind
+gives_set kind (Rectangle rs) next = refuse (plain WrongKind)
 gives_set kind (Items is) next = judged (all_fit kind is) next
 gives_set kind (Named e) next = names_set kind e next
 
 -- the indices that are given: looks at those of the domain that is named. A rectangle is no set, and is refused before
 abbrev pub indices_given : Operand → Look (List Index)
-indices_given (Rectangle rs) next = refuse WrongKind
+indices_given (Rectangle rs) next = refuse (plain WrongKind)
 indices_given (Items is) next = next is
 indices_given (Named e) next = members e next

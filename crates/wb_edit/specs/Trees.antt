@@ -4,6 +4,7 @@ use Rattle.selective_undo.specs.Edit.{Edit, refuse, look}
 use Rattle.wb_cells.specs.declared.cells.cell.Cell.{Cell}
 use Rattle.wb_cells.specs.declared.cells.pattern.Pattern.TheVariants.{One}
 use Rattle.wb_cells.specs.declared.cells.value.Value.{Value}
+use Rattle.wb_cells.specs.declared.refusal.EditRefusal.{EditRefusal}
 use Rattle.wb_cells.specs.declared.refusal.Refusal.{Refusal}
 use Rattle.wb_cells.specs.Schema.{workbook}
 
@@ -35,7 +36,11 @@ first_value (x ∷ xs) = Some x.1
 abbrev pub read : Cell → Look (Option Value)
 read c next = look (One c) (λ seen. next (first_value seen))
 
+-- why a command is refused, as the refusal of an edit that is this command alone: there is no place to tell
+abbrev pub plain : Refusal → EditRefusal
+plain why = record { why = why; at = None }
+
 -- go on with what a judgement gives, or be refused by it
 abbrev pub judged : {X : Type 0} → Result X Refusal → Look X
 judged (Ok x) next = next x
-judged (Err why) next = refuse why
+judged (Err why) next = refuse (plain why)

@@ -9,12 +9,11 @@ use Rattle.wb_cells.specs.Shapes.{indices}
 use Rattle.wb_cells.specs.WellFormed.{IsRectangle}
 use Rattle.wb_edit.specs.declared.asked_rectangle.AskedRectangle.{AskedRectangle}
 use Rattle.wb_edit.specs.declared.asked_rectangle.AskedRectangle.TheVariants.{Ranges, Indices}
-use Rattle.wb_edit.specs.declared.edit.Edit.{Edit as Command}
+use Rattle.wb_edit.specs.declared.command.Command.{Command}
 use Rattle.wb_edit.specs.ValidNumbers.{AreAskedNumbers, AreAskedOnce}
 use Rattle.wb_edit.specs.ValidSources.{AreNewIndices, AreNewIndicesOnce}
-use Rattle.wb_text.specs.Texts.Books.{IsBookText}
-use Rattle.wb_edit.specs.declared.edit.Edit.TheVariants.{Domain, Remap, Sparse, Assoc, Array, Set, Irv, Copy, Fill, Put, FillAll, DropArray, All, Add, Remove}
-use Rattle.wb_edit.specs.declared.edit.Edit.TheVariants.{DropDomain, Reshape, Load}
+use Rattle.wb_edit.specs.declared.command.Command.TheVariants.{Domain, Remap, Sparse, Assoc, Array, Set, Irv, Copy, Fill, Put, FillAll, DropArray, All, Add, Remove}
+use Rattle.wb_edit.specs.declared.command.Command.TheVariants.{DropDomain, Reshape}
 
 -- the ranges that are asked for are those of a rectangular domain
 abbrev pub IsAsked : AskedRectangle → Type 0
@@ -26,48 +25,46 @@ abbrev pub IsAskedOnce : AskedRectangle → Type 0
 IsAskedOnce (Ranges rs) = IsListedOnce (indices rs)
 IsAskedOnce Indices = ⊤
 
--- what a command has to be so that it keeps a workbook well formed; every value of the type `Edit` is
-abbrev pub IsValid : Command → Type 0
+-- what a command has to be so that it keeps a workbook well formed; every value of the type `Command` is
+abbrev pub IsValidCommand : Command → Type 0
 -- the new name is a name, the ranges are those of a rectangular domain, and the mapping is one for some rank
-IsValid (Domain d asked m) = (is_name d ≡ true) × IsAsked asked × IsLayout m
+IsValidCommand (Domain d asked m) = (is_name d ≡ true) × IsAsked asked × IsLayout m
 -- the mapping is one for some rank
-IsValid (Remap d m) = IsLayout m
+IsValidCommand (Remap d m) = IsLayout m
 -- the new name is a name
-IsValid (Sparse d parent) = is_name d ≡ true
+IsValidCommand (Sparse d parent) = is_name d ≡ true
 -- the new name is a name
-IsValid (Assoc d type) = is_name d ≡ true
+IsValidCommand (Assoc d type) = is_name d ≡ true
 -- the new name is a name
-IsValid (Array a d) = is_name a ≡ true
+IsValidCommand (Array a d) = is_name a ≡ true
 -- the number is one of 64 bits
-IsValid (Set a i v) = FitsSigned w64 v
+IsValidCommand (Set a i v) = FitsSigned w64 v
 -- the number is one of 64 bits
-IsValid (Irv a v) = FitsSigned w64 v
+IsValidCommand (Irv a v) = FitsSigned w64 v
 -- the number is one of 64 bits
-IsValid (Copy a i b j c) = FitsSigned w64 c
+IsValidCommand (Copy a i b j c) = FitsSigned w64 c
 -- the number is one of 64 bits
-IsValid (Fill a asked v) = FitsSigned w64 v
+IsValidCommand (Fill a asked v) = FitsSigned w64 v
 -- the numbers are of 64 bits, one for each index
-IsValid (Put a asked) = AreAskedNumbers asked
+IsValidCommand (Put a asked) = AreAskedNumbers asked
 -- the number is one of 64 bits
-IsValid (FillAll a v) = FitsSigned w64 v
+IsValidCommand (FillAll a v) = FitsSigned w64 v
 -- nothing is asked
-IsValid (DropArray a) = ⊤
+IsValidCommand (DropArray a) = ⊤
 -- nothing is asked
-IsValid (All a how b) = ⊤
+IsValidCommand (All a how b) = ⊤
 -- the index is made of integers of 64 bits, or of the text of a label
-IsValid (Add d i) = IsIndex i
+IsValidCommand (Add d i) = IsIndex i
 -- nothing is asked
-IsValid (Remove d i) = ⊤
+IsValidCommand (Remove d i) = ⊤
 -- nothing is asked
-IsValid (DropDomain d) = ⊤
+IsValidCommand (DropDomain d) = ⊤
 -- what is given is as it has to be
-IsValid (Reshape d source) = AreNewIndices source
--- the text is a workbook's
-IsValid (Load text) = IsBookText text
+IsValidCommand (Reshape d source) = AreNewIndices source
 
--- The indices that a command carries are listed once each; those of every value of the type `Edit` are.
-abbrev pub ListsOnce : Command → Type 0
-ListsOnce (Fill a asked v) = IsAskedOnce asked
-ListsOnce (Put a asked) = AreAskedOnce asked
-ListsOnce (Reshape d source) = AreNewIndicesOnce source
-ListsOnce _ = ⊤
+-- The indices that a command carries are listed once each; those of every value of the type `Command` are.
+abbrev pub CommandListsOnce : Command → Type 0
+CommandListsOnce (Fill a asked v) = IsAskedOnce asked
+CommandListsOnce (Put a asked) = AreAskedOnce asked
+CommandListsOnce (Reshape d source) = AreNewIndicesOnce source
+CommandListsOnce _ = ⊤

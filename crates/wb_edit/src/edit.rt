@@ -1,63 +1,22 @@
-ghost use Rattle.std.specs.Prelude.{◌≡◌, IfOk};
-ghost use Rattle.wb_edit.specs.Valid.{IsAsked, IsAskedOnce, IsValid, ListsOnce};
-ghost use Rattle.wb_edit.specs.ValidNumbers.{AreAskedNumbers, AreAskedOnce};
-ghost use Rattle.wb_edit.specs.ValidSources.{IsOperand, IsOperandOnce, AreNewIndices, AreNewIndicesOnce};
+ghost use Rattle.std.specs.Prelude.{◌≡◌, IfOk, option_map};
+ghost use Rattle.std.specs.Bool.{Decides};
+ghost use Rattle.wb_edit.specs.Edits.{command_in, note_of, IsValid, ListsOnce};
 
-use crate::asked_numbers::AskedNumbers;
-use crate::asked_rectangle::AskedRectangle;
-use crate::operation::Operation;
+use crate::command::Command;
+use crate::note::Note;
+use crate::transaction::Transaction;
 use std::alloc::Global;
-use wb_cells::{
-    AnyIndex, AnyLayout, KeyType, Name, index_validity, indices_validity, numbers_validity,
-};
-use wb_range::{Domain, NoMemory};
-use wb_reshape::{NewIndices, Operand};
+use wb_range::NoMemory;
 use wb_text::BookText;
 
-/// A command that changes a workbook, as it is asked for.
+/// A change of a workbook, as it is asked for. Each is made whole or not at all.
 ///
-/// What it tests, reads and writes is its `meaning` in `specs/Commands.antt`.
+/// What it tests, reads and writes is its `meaning` in `specs/Edits.antt`.
 pub enum Edit {
-    /// A new rectangular domain of this name, with the ranges that are asked for and this mapping
-    /// (Chapel Language Specification, Domains and Domain Maps).
-    Domain(Name, AskedRectangle, AnyLayout),
-    /// A new mapping of the rectangular domain of this name.
-    Remap(Name, AnyLayout),
-    /// A new sparse domain of the first name, with no index yet, in the rectangular domain of the second one
-    /// (Chapel Language Specification, Domains).
-    Sparse(Name, Name),
-    /// A new associative domain with indices of a type, none yet (Chapel Language Specification, Domains).
-    Assoc(Name, KeyType),
-    /// A new array of the first name, over the domain of the second one; its elements are 0
-    /// (Chapel Language Specification, Arrays).
-    Array(Name, Name),
-    /// A new value for the element of an array at an index.
-    Set(Name, AnyIndex, i64),
-    /// A new implicit value for an array over a sparse domain.
-    Irv(Name, i64),
-    /// An element, the first name and index, becomes another one, the second name and index, plus a number.
-    Copy(Name, AnyIndex, Name, AnyIndex, i64),
-    /// One number as the elements of an array at the indices of a rectangle.
-    Fill(Name, AskedRectangle, i64),
-    /// A number for each index of a rectangle, as the elements of an array there.
-    Put(Name, AskedNumbers),
-    /// One number as every element of an array.
-    FillAll(Name, i64),
-    /// The end of an array: it, and its elements, are no more.
-    DropArray(Name),
-    /// Each element of the first array becomes what it and the second array's element at the same index make.
-    All(Name, Operation, Name),
-    /// A new index of the sparse or associative domain of this name
-    /// (Chapel Language Specification, Domains: adding and removing indices).
-    Add(Name, AnyIndex),
-    /// The end of an index of the sparse or associative domain of this name
-    /// (Chapel Language Specification, Domains: adding and removing indices).
-    Remove(Name, AnyIndex),
-    /// The end of a domain to which nothing is bound.
-    DropDomain(Name),
-    /// A new value of the domain of this name, from a source of its kind (Chapel Language Specification, Domains: assignment,
-    /// slicing, translate, expand, and set operations on associative domains).
-    Reshape(Name, NewIndices),
+    /// One command.
+    Command(Command),
+    /// Several commands as one, with a note.
+    Transaction(Transaction),
     /// The workbook of a text, where there is no object yet.
     Load(BookText),
 }
@@ -66,113 +25,68 @@ pub enum Edit {
 impl Drop for Edit {
     fn drop(self) {
         match self {
-            Edit::Domain(_, _, _)
-            | Edit::Remap(_, _)
-            | Edit::Sparse(_, _)
-            | Edit::Assoc(_, _)
-            | Edit::Array(_, _)
-            | Edit::Set(_, _, _)
-            | Edit::Irv(_, _)
-            | Edit::Copy(_, _, _, _, _)
-            | Edit::Fill(_, _, _)
-            | Edit::Put(_, _)
-            | Edit::FillAll(_, _)
-            | Edit::DropArray(_)
-            | Edit::All(_, _, _)
-            | Edit::Add(_, _)
-            | Edit::Remove(_, _)
-            | Edit::DropDomain(_)
-            | Edit::Reshape(_, _)
-            | Edit::Load(_) => {}
+            Edit::Command(_) | Edit::Transaction(_) | Edit::Load(_) => {}
         }
     }
 }
 
 impl Edit {
-    /// An equal edit, or `NoMemory` where none is left for a set of indices, for numbers or a text in it. All else is of a fixed size and takes none.
+    /// An equal edit, or `NoMemory` where none is left for a list of commands, a set of indices, numbers or a text in it. All else is of a fixed size and takes none.
     pub fn copy(&self, alloc: Global) -> Result<Edit, NoMemory>
         ensures { IfOk result (λ e. e ≡ self.now) }
     {
         match self {
-            Edit::Domain(domain, asked, mapping) => Ok(Edit::Domain(*domain, *asked, *mapping)),
-            Edit::Remap(domain, mapping) => Ok(Edit::Remap(*domain, *mapping)),
-            Edit::Sparse(domain, parent) => Ok(Edit::Sparse(*domain, *parent)),
-            Edit::Assoc(domain, key) => Ok(Edit::Assoc(*domain, *key)),
-            Edit::Array(array, domain) => Ok(Edit::Array(*array, *domain)),
-            Edit::Set(array, index, value) => Ok(Edit::Set(*array, *index, *value)),
-            Edit::Irv(array, value) => Ok(Edit::Irv(*array, *value)),
-            Edit::Copy(array, index, source, place, more) => {
-                Ok(Edit::Copy(*array, *index, *source, *place, *more))
-            }
-            Edit::Fill(array, on, value) => Ok(Edit::Fill(*array, *on, *value)),
-            Edit::Put(array, asked) => Ok(Edit::Put(*array, asked.copy(alloc)?)),
-            Edit::FillAll(array, value) => Ok(Edit::FillAll(*array, *value)),
-            Edit::DropArray(array) => Ok(Edit::DropArray(*array)),
-            Edit::All(array, how, other) => Ok(Edit::All(*array, *how, *other)),
-            Edit::Add(domain, index) => Ok(Edit::Add(*domain, *index)),
-            Edit::Remove(domain, index) => Ok(Edit::Remove(*domain, *index)),
-            Edit::DropDomain(domain) => Ok(Edit::DropDomain(*domain)),
-            Edit::Reshape(domain, source) => Ok(Edit::Reshape(*domain, source.copy(alloc)?)),
+            Edit::Command(command) => Ok(Edit::Command(command.copy(alloc)?)),
+            Edit::Transaction(several) => Ok(Edit::Transaction(several.copy(alloc)?)),
             Edit::Load(text) => Ok(Edit::Load(text.copy(alloc)?)),
         }
     }
 
-    /// Computes nothing. Callers learn what every edit is: its new name is a name, its ranges and mapping are within the limits,
-    /// its numbers are of 64 bits and as many as the indices that they are for, its indices are made of such numbers or of texts of labels, and its text is a workbook's.
+    /// Whether the edits are equal.
+    pub fn is_same(&self, other: &Edit) -> bool
+        ensures { Decides result (self.now ≡ other.now) }
+    {
+        match (self, other) {
+            (Edit::Command(command), Edit::Command(by)) => command.is_same(by),
+            (Edit::Transaction(several), Edit::Transaction(by)) => several.is_same(by),
+            (Edit::Load(text), Edit::Load(by)) => text.is_same(by),
+            _ => false,
+        }
+    }
+
+    /// The command that the edit is, if it is one alone.
+    pub fn into_command(self) -> Option<Command>
+        ensures { result ≡ command_in self }
+    {
+        match self {
+            Edit::Command(command) => Some(command),
+            Edit::Transaction(_) => None,
+            Edit::Load(_) => None,
+        }
+    }
+
+    /// The note of the edit, if it has one.
+    pub fn note(&self) -> Option<&Note>
+        ensures { option_map (λ n. n.now) result ≡ note_of self.now }
+    {
+        match self {
+            Edit::Transaction(several) => several.note(),
+            Edit::Command(_) => None,
+            Edit::Load(_) => None,
+        }
+    }
+
+    /// Computes nothing. Callers learn what every edit is: of each command the new name is a name, the ranges and the mapping are
+    /// within the limits, the numbers are of 64 bits and as many as the indices that they are for; and a text is a workbook's.
     pub fn validity(&self)
         ensures { IsValid self.now }
     {
         match self {
-            Edit::Domain(domain, asked, mapping) => {
-                // For the proof: the bytes are those of a name.
-                let _name = domain.as_bytes();
-                asked_validity(asked);
-                // For the proof: the mapping is within the limits.
-                let _fits = mapping.is_of_rank(1);
+            Edit::Command(command) => command.validity(),
+            Edit::Transaction(several) => {
+                // For the proof: each command is valid.
+                let _commands = several.commands();
             }
-            Edit::Remap(_, mapping) => {
-                // For the proof: the mapping is within the limits.
-                let _fits = mapping.is_of_rank(1);
-            }
-            Edit::Sparse(domain, _) => {
-                // For the proof: the bytes are those of a name.
-                let _name = domain.as_bytes();
-            }
-            Edit::Assoc(domain, _) => {
-                // For the proof: the bytes are those of a name.
-                let _name = domain.as_bytes();
-            }
-            Edit::Array(array, _) => {
-                // For the proof: the bytes are those of a name.
-                let _name = array.as_bytes();
-            }
-            Edit::Set(_, _, value) => {
-                // For the proof: the number is one of 64 bits.
-                let _value = *value;
-            }
-            Edit::Irv(_, value) => {
-                // For the proof: the number is one of 64 bits.
-                let _value = *value;
-            }
-            Edit::Copy(_, _, _, _, more) => {
-                // For the proof: the number is one of 64 bits.
-                let _more = *more;
-            }
-            Edit::Fill(_, _, value) => {
-                // For the proof: the number is one of 64 bits.
-                let _value = *value;
-            }
-            Edit::Put(_, asked) => numbers_asked_validity(asked),
-            Edit::FillAll(_, value) => {
-                // For the proof: the number is one of 64 bits.
-                let _value = *value;
-            }
-            Edit::DropArray(_) => {}
-            Edit::All(_, _, _) => {}
-            Edit::Add(_, index) => index_validity(index),
-            Edit::Remove(_, _) => {}
-            Edit::DropDomain(_) => {}
-            Edit::Reshape(_, source) => source_validity(source),
             Edit::Load(text) => {
                 // For the proof: the text is a workbook's.
                 let _text = text.as_str();
@@ -180,130 +94,17 @@ impl Edit {
         }
     }
 
-    /// Computes nothing. Callers learn that the indices that an edit carries are listed once each.
+    /// Computes nothing. Callers learn that the indices that each command of an edit carries are listed once each.
     pub fn listing(&self)
         ensures { ListsOnce self.now }
     {
         match self {
-            Edit::Fill(_, on, _) => asked_listing(on),
-            Edit::Put(_, asked) => numbers_asked_listing(asked),
-            Edit::Reshape(_, source) => source_listing(source),
-            Edit::Domain(_, _, _) => {}
-            Edit::Remap(_, _) => {}
-            Edit::Sparse(_, _) => {}
-            Edit::Assoc(_, _) => {}
-            Edit::Array(_, _) => {}
-            Edit::Set(_, _, _) => {}
-            Edit::Irv(_, _) => {}
-            Edit::Copy(_, _, _, _, _) => {}
-            Edit::FillAll(_, _) => {}
-            Edit::DropArray(_) => {}
-            Edit::All(_, _, _) => {}
-            Edit::Add(_, _) => {}
-            Edit::Remove(_, _) => {}
-            Edit::DropDomain(_) => {}
+            Edit::Command(command) => command.listing(),
+            Edit::Transaction(several) => {
+                // For the proof: each command lists its indices once.
+                let _commands = several.commands();
+            }
             Edit::Load(_) => {}
         }
-    }
-}
-
-// Computes nothing. Callers learn that the rectangle that is asked for has each index once.
-fn asked_listing(asked: &AskedRectangle)
-    ensures { IsAskedOnce asked.now }
-{
-    match asked {
-        AskedRectangle::Ranges(ranges) => {
-            // For the proof: each index of the ranges is listed once.
-            let _once = ranges.size();
-        }
-        AskedRectangle::Indices => {}
-    }
-}
-
-// Computes nothing. Callers learn that the rectangle of the numbers has each index once.
-fn numbers_asked_listing(asked: &AskedNumbers)
-    ensures { AreAskedOnce asked.now }
-{
-    match asked {
-        AskedNumbers::Rectangle(numbered) => {
-            // For the proof: each index of the ranges is listed once.
-            let _once = numbered.ranges().size();
-        }
-        AskedNumbers::Indices => {}
-    }
-}
-
-// Computes nothing. Callers learn what the numbers are that are asked for, and that they are as many as the indices.
-fn numbers_asked_validity(asked: &AskedNumbers)
-    ensures { AreAskedNumbers asked.now }
-{
-    match asked {
-        AskedNumbers::Rectangle(numbered) => numbers_validity(numbered.numbers()),
-        AskedNumbers::Indices => {}
-    }
-}
-
-// Computes nothing. Callers learn that a set in the source has each index once.
-fn source_listing(source: &NewIndices)
-    ensures { AreNewIndicesOnce source.now }
-{
-    match source {
-        NewIndices::To(given) => given_listing(given),
-        NewIndices::Slice(given) => given_listing(given),
-        NewIndices::Displace(_, _) => {}
-        NewIndices::Combine(_, given) => given_listing(given),
-    }
-}
-
-// Computes nothing. Callers learn that a set that is given has each index once.
-fn given_listing(given: &Operand)
-    ensures { IsOperandOnce given.now }
-{
-    match given {
-        Operand::Rectangle(_) => {}
-        Operand::Items(items) => {
-            // For the proof: each index of the set is listed once.
-            let _once = items.size();
-        }
-        Operand::Named(_) => {}
-    }
-}
-
-// Computes nothing. Callers learn what the ranges of the rectangle are that is asked for.
-fn asked_validity(asked: &AskedRectangle)
-    ensures { IsAsked asked.now }
-{
-    match asked {
-        AskedRectangle::Ranges(ranges) => {
-            // For the proof: the ranges are those of a rectangle.
-            let _rank = ranges.rank();
-        }
-        AskedRectangle::Indices => {}
-    }
-}
-
-// Computes nothing. Callers learn what the source of a domain's new value is made of.
-fn source_validity(source: &NewIndices)
-    ensures { AreNewIndices source.now }
-{
-    match source {
-        NewIndices::To(given) => given_validity(given),
-        NewIndices::Slice(given) => given_validity(given),
-        NewIndices::Displace(_, _) => {}
-        NewIndices::Combine(_, given) => given_validity(given),
-    }
-}
-
-// Computes nothing. Callers learn what is given.
-fn given_validity(given: &Operand)
-    ensures { IsOperand given.now }
-{
-    match given {
-        Operand::Rectangle(ranges) => {
-            // For the proof: the ranges are those of a rectangle.
-            let _rank = ranges.rank();
-        }
-        Operand::Items(items) => indices_validity(items.as_slice()),
-        Operand::Named(_) => {}
     }
 }

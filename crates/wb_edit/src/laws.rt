@@ -1,10 +1,10 @@
-//! What holds of every command: each law is the contract of a function that does nothing.
+//! What holds of every edit: each law is the contract of a function that does nothing.
 
 ghost use Rattle.selective_undo.specs.Laws.{LocalityLaw};
 ghost use Rattle.wb_cells.specs.Schema.{workbook};
 ghost use Rattle.wb_edit.specs.Laws.{EachCellOnce, KeepsWellFormed};
 
-/// A valid command, accepted or refused, leaves a well-formed workbook well formed.
+/// A valid edit, accepted or refused, leaves a well-formed workbook well formed.
 ///
 /// Well formed: each array's domain is there, and its elements have exactly that domain's indices; the
 /// cells `In` are exactly those of the shapes; names are names, and all limits hold.
@@ -12,8 +12,8 @@ pub fn keeps_well_formed()
     ensures { KeepsWellFormed }
 {}
 
-/// What a valid command writes in a well-formed workbook names each cell once. So the count of a plan is how many cells the
-/// command touches, the cells `In` aside.
+/// What a valid edit writes in a well-formed workbook names each cell once. So the count of a plan is how many cells the
+/// edit touches, the cells `In` aside.
 pub fn each_cell_once()
     ensures { EachCellOnce }
 {}

@@ -1,9 +1,9 @@
-// Whether two edits are equal.
+// Whether two commands are equal.
 ghost use Rattle.std.specs.Prelude.{◌≡◌};
 ghost use Rattle.std.specs.Bool.{Decides};
 
 use crate::asked_rectangle::AskedRectangle;
-use crate::edit::Edit;
+use crate::command::Command;
 use wb_cells::{AnyIndex, Name};
 
 fn are_same_names(one: &Name, other: &Name, two: &Name, another: &Name) -> bool
@@ -33,45 +33,45 @@ fn is_same_part(one: &Name, on: &AskedRectangle, two: &Name, other: &AskedRectan
     on.is_same(other)
 }
 
-impl Edit {
-    /// Whether the edits are equal.
-    pub fn is_same(&self, other: &Edit) -> bool
+impl Command {
+    /// Whether the commands are equal.
+    pub fn is_same(&self, other: &Command) -> bool
         ensures { Decides result (self.now ≡ other.now) }
     {
         match (self, other) {
-            (Edit::Domain(a, b, c), Edit::Domain(x, y, z)) => {
+            (Command::Domain(a, b, c), Command::Domain(x, y, z)) => {
                 if !is_same_part(a, b, x, y) {
                     return false;
                 }
                 c.is_same(z)
             }
-            (Edit::Remap(a, b), Edit::Remap(x, y)) => {
+            (Command::Remap(a, b), Command::Remap(x, y)) => {
                 if !a.is_same(x) {
                     return false;
                 }
                 b.is_same(y)
             }
-            (Edit::Sparse(a, b), Edit::Sparse(x, y)) => are_same_names(a, b, x, y),
-            (Edit::Assoc(a, b), Edit::Assoc(x, y)) => {
+            (Command::Sparse(a, b), Command::Sparse(x, y)) => are_same_names(a, b, x, y),
+            (Command::Assoc(a, b), Command::Assoc(x, y)) => {
                 if !a.is_same(x) {
                     return false;
                 }
                 b.is_same(*y)
             }
-            (Edit::Array(a, b), Edit::Array(x, y)) => are_same_names(a, b, x, y),
-            (Edit::Set(a, b, c), Edit::Set(x, y, z)) => {
+            (Command::Array(a, b), Command::Array(x, y)) => are_same_names(a, b, x, y),
+            (Command::Set(a, b, c), Command::Set(x, y, z)) => {
                 if !is_same_place(a, b, x, y) {
                     return false;
                 }
                 *c == *z
             }
-            (Edit::Irv(a, b), Edit::Irv(x, y)) => {
+            (Command::Irv(a, b), Command::Irv(x, y)) => {
                 if !a.is_same(x) {
                     return false;
                 }
                 *b == *y
             }
-            (Edit::Copy(a, b, c, d, e), Edit::Copy(v, w, x, y, z)) => {
+            (Command::Copy(a, b, c, d, e), Command::Copy(v, w, x, y, z)) => {
                 if !is_same_place(a, b, v, w) {
                     return false;
                 }
@@ -80,41 +80,40 @@ impl Edit {
                 }
                 *e == *z
             }
-            (Edit::Fill(a, b, c), Edit::Fill(x, y, z)) => {
+            (Command::Fill(a, b, c), Command::Fill(x, y, z)) => {
                 if !is_same_part(a, b, x, y) {
                     return false;
                 }
                 *c == *z
             }
-            (Edit::Put(a, b), Edit::Put(x, y)) => {
+            (Command::Put(a, b), Command::Put(x, y)) => {
                 if !a.is_same(x) {
                     return false;
                 }
                 b.is_same(y)
             }
-            (Edit::FillAll(a, b), Edit::FillAll(x, y)) => {
+            (Command::FillAll(a, b), Command::FillAll(x, y)) => {
                 if !a.is_same(x) {
                     return false;
                 }
                 *b == *y
             }
-            (Edit::DropArray(a), Edit::DropArray(x)) => a.is_same(x),
-            (Edit::All(a, b, c), Edit::All(x, y, z)) => {
+            (Command::DropArray(a), Command::DropArray(x)) => a.is_same(x),
+            (Command::All(a, b, c), Command::All(x, y, z)) => {
                 if !are_same_names(a, c, x, z) {
                     return false;
                 }
                 b.is_same(*y)
             }
-            (Edit::Add(a, b), Edit::Add(x, y)) => is_same_place(a, b, x, y),
-            (Edit::Remove(a, b), Edit::Remove(x, y)) => is_same_place(a, b, x, y),
-            (Edit::DropDomain(a), Edit::DropDomain(x)) => a.is_same(x),
-            (Edit::Reshape(a, b), Edit::Reshape(x, y)) => {
+            (Command::Add(a, b), Command::Add(x, y)) => is_same_place(a, b, x, y),
+            (Command::Remove(a, b), Command::Remove(x, y)) => is_same_place(a, b, x, y),
+            (Command::DropDomain(a), Command::DropDomain(x)) => a.is_same(x),
+            (Command::Reshape(a, b), Command::Reshape(x, y)) => {
                 if !a.is_same(x) {
                     return false;
                 }
                 b.is_same(y)
             }
-            (Edit::Load(a), Edit::Load(x)) => a.is_same(x),
             _ => false,
         }
     }

@@ -8,7 +8,7 @@ use Rattle.selective_undo.specs.Log.{Least, BlocksRedo}
 use Rattle.selective_undo.proofs.Inverses.{edit_at}
 use Rattle.wb_cells.specs.Cells.{Changes, count_of}
 use Rattle.wb_cells.specs.Schema.{workbook}
-use Rattle.wb_cells.specs.declared.refusal.Refusal as command_refusal
+use Rattle.wb_cells.specs.declared.refusal.EditRefusal as command_refusal
 use Rattle.wb_log.specs.declared.refusal.Refusal.{Refusal}
 use Rattle.wb_log.specs.declared.refusal.Refusal.TheVariants.{BadRequest, BadLiteral, Refused, NoSuchEdit, NotInForce, InForce as IsInForce, Blocked}
 use Rattle.wb_log.specs.declared.refusal.Refusal.TheVariants.{RefusedInPlace, NoMemory, StrangePass}
@@ -103,7 +103,7 @@ module _ (es : List (Entry workbook)) (k : ℕ) where
     none_there : slice_get es k ≡ None → RedoCause
     on : (e : Edit workbook) → slice_get es k ≡ Some (done e) → RedoCause
     met : (e : Edit workbook) → slice_get es k ≡ Some (undone e) → (j : ℕ) → Least (BlocksRedo (traces es) k (trace e (replay es))) j → RedoCause
-    refused : (e : Edit workbook) → slice_get es k ≡ Some (undone e) → (why : command_refusal.Refusal) → outcome e (replay es) ≡ Err why →
+    refused : (e : Edit workbook) → slice_get es k ≡ Some (undone e) → (why : command_refusal.EditRefusal) → outcome e (replay es) ≡ Err why →
         ((j : ℕ) → BlocksRedo (traces es) k (trace e (replay es)) j → ⊥) → RedoCause
 
   abbrev redo_answer : RedoCause → Result ℕ Refusal
@@ -138,7 +138,7 @@ module _ (es : List (Entry workbook)) (k : ℕ) where
         | inr need ↦ can.needs_none j b.of_j b.later b.j_in_force need
       ]
 
-  granted_refused : (t : Trace workbook) → CanRedo es k t → (e : Edit workbook) → slice_get es k ≡ Some (undone e) → (why : command_refusal.Refusal) →
+  granted_refused : (t : Trace workbook) → CanRedo es k t → (e : Edit workbook) → slice_get es k ≡ Some (undone e) → (why : command_refusal.EditRefusal) →
       outcome e (replay es) ≡ Err why → ⊥
   granted_refused t can e off why is = ok_err can.accepted (ap (λ u. u.outcome) (sym (tried_same t can e off)) ∙ is)
 
@@ -154,7 +154,7 @@ module _ (es : List (Entry workbook)) (k : ℕ) where
       least_same (BlocksRedo (traces es) k (trace d (replay es))) j i
       (subst (λ f. Least (BlocksRedo (traces es) k (trace f (replay es))) j) (undone_same e d a b) least) other
 
-  refused_same : (e d : Edit workbook) → slice_get es k ≡ Some (undone e) → slice_get es k ≡ Some (undone d) → (why other : command_refusal.Refusal)
+  refused_same : (e d : Edit workbook) → slice_get es k ≡ Some (undone e) → slice_get es k ≡ Some (undone d) → (why other : command_refusal.EditRefusal)
       → outcome e (replay es) ≡ Err why → outcome d (replay es) ≡ Err other → why ≡ other
   refused_same e d a b why other is also =
       let same : Err why ≡ outcome d (replay es) = sym is ∙ ap (λ f. outcome f (replay es)) (undone_same e d a b) in
@@ -250,7 +250,7 @@ last_answer_law es r q fits also memory room =
 module _ (es : List (Entry workbook)) (e : Edit workbook) where
   data EditCause : Type 0 where
     accepted : (xs : Changes) → outcome e (replay es) ≡ Ok xs → EditCause
-    denied : (why : command_refusal.Refusal) → outcome e (replay es) ≡ Err why → EditCause
+    denied : (why : command_refusal.EditRefusal) → outcome e (replay es) ≡ Err why → EditCause
 
   abbrev edit_answer : EditCause → Result (ℕ × ℕ) Refusal
   edit_answer (accepted xs is) = Ok (length es + 1, count_of xs)

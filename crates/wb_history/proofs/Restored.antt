@@ -11,8 +11,8 @@ use Rattle.std.specs.FinMap.{empty}
 use Rattle.wb_cells.specs.Cells.{Cells, count_of, written_more}
 use Rattle.wb_edit.specs.declared.edit.Edit as command
 use Rattle.wb_cells.specs.Schema.{workbook}
-use Rattle.wb_edit.specs.Commands.{meaning}
-use Rattle.wb_edit.specs.Valid.{IsValid}
+use Rattle.wb_edit.specs.Edits.{meaning}
+use Rattle.wb_edit.specs.Edits.{IsValid}
 use Rattle.wb_log.specs.declared.entry.Entry as kept
 use Rattle.wb_log.specs.declared.refusal.Refusal.{Refusal}
 use Rattle.wb_log.specs.declared.refusal.Refusal.TheVariants.{BadRequest, BadLiteral, Refused, NoSuchEdit, NotInForce, InForce as IsInForce, Blocked}

@@ -14,6 +14,7 @@ use Rattle.wb_history.specs.declared.query.Answer.{Answer}
 use Rattle.wb_history.specs.declared.query.Answer.TheVariants.{Locale}
 use Rattle.wb_log.specs.declared.refusal.Refusal.{Refusal}
 use Rattle.wb_log.specs.declared.refusal.Refusal.TheVariants.{Refused}
+use Rattle.wb_edit.specs.Trees.{plain}
 
 -- the locale of an index that is there
 abbrev pub locale_found : Cells → Name → Index → Result (Unit {0}) why.Refusal → Result ℕ why.Refusal
@@ -35,4 +36,4 @@ where_answer s d i = locale_from s d i (domain_kind (get s (Object d)))
 
 abbrev pub locale_answer : Result ℕ why.Refusal → Result Answer Refusal
 locale_answer (Ok l) = Ok (Locale l)
-locale_answer (Err e) = Err (Refused e)
+locale_answer (Err e) = Err (Refused (plain e))

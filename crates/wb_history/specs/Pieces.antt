@@ -17,6 +17,7 @@ use Rattle.wb_history.specs.declared.query.Answer.{Answer}
 use Rattle.wb_history.specs.declared.query.Answer.TheVariants.{Piece}
 use Rattle.wb_log.specs.declared.refusal.Refusal.{Refusal}
 use Rattle.wb_log.specs.declared.refusal.Refusal.TheVariants.{Refused, NoMemory}
+use Rattle.wb_edit.specs.Trees.{plain}
 
 -- the domain by whose mapping the indices of d lie: a sparse domain has none of its own, and goes by its parent's
 abbrev pub mapped_by : (d : Name) → DomainKind → Name
@@ -58,7 +59,7 @@ piece_of s a l = piece_from s a l (array_kind (get s (Object a)))
 
 abbrev pub piece_answer : Result (List (Index × ℤ)) why.Refusal → Result Answer Refusal
 piece_answer (Ok xs) = Ok (Piece xs)
-piece_answer (Err e) = Err (Refused e)
+piece_answer (Err e) = Err (Refused (plain e))
 
 -- What is to be answered, but that memory may run out.
 abbrev pub OrNoMemory : (due found : Result Answer Refusal) → Type 0

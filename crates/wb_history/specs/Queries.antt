@@ -13,15 +13,18 @@ use Rattle.wb_edit.specs.Implicit.{has_implicit, parent_in}
 use Rattle.wb_edit.specs.Numbers.{element_or_refusal}
 use Rattle.wb_edit.specs.Looks.{domain_kind, array_kind, is_there, fits}
 use Rattle.wb_history.specs.declared.query.Answer.{Answer}
-use Rattle.wb_history.specs.declared.query.Answer.TheVariants.{Value as ValueIs, Size as SizeIs, InForce}
+use Rattle.wb_history.specs.declared.query.Answer.TheVariants.{Value as ValueIs, Size as SizeIs, InForce, Note as NoteIs}
 use Rattle.wb_history.specs.declared.query.Query.{Query}
-use Rattle.wb_history.specs.declared.query.Query.TheVariants.{Get, Size, Where, Piece, Reduce, State}
+use Rattle.wb_history.specs.declared.query.Query.TheVariants.{Get, Size, Where, Piece, Reduce, State, Note}
 use Rattle.wb_log.specs.declared.refusal.Refusal.{Refusal}
 use Rattle.wb_log.specs.declared.refusal.Refusal.TheVariants.{Refused, NoSuchEdit}
 use Rattle.wb_history.specs.Locales.{where_answer, locale_answer}
 use Rattle.wb_history.specs.Pieces.{piece_of, piece_answer, OrNoMemory}
 use Rattle.wb_history.specs.Reductions.{reduce_answer}
+use Rattle.wb_history.specs.Restored.{numbered_at}
 use Rattle.wb_log.specs.Past.{Numbered, force_of}
+use Rattle.wb_edit.specs.Edits.{note_of}
+use Rattle.wb_edit.specs.Trees.{plain}
 
 -- the implicit value of an array
 abbrev pub value_inside : Cells → Name → Result (Unit {0}) why.Refusal → Result ℤ why.Refusal
@@ -58,7 +61,7 @@ get_answer s a i = get_from s a i (array_kind (get s (Object a)))
 
 abbrev pub value_answer : Result ℤ why.Refusal → Result Answer Refusal
 value_answer (Ok x) = Ok (ValueIs x)
-value_answer (Err e) = Err (Refused e)
+value_answer (Err e) = Err (Refused (plain e))
 
 abbrev pub size_from : Cells → Name → Result DomainKind why.Refusal → Result ℕ why.Refusal
 size_from s d (Ok kind) = Ok (unwrap_or (size_at s d) 0)
@@ -71,11 +74,16 @@ size_answer s d = size_from s d (domain_kind (get s (Object d)))
 -- the count as an answer, or why there is none
 abbrev pub count_answer : Result ℕ why.Refusal → Result Answer Refusal
 count_answer (Ok n) = Ok (SizeIs n)
-count_answer (Err e) = Err (Refused e)
+count_answer (Err e) = Err (Refused (plain e))
 
 abbrev pub force_answer : Option Bool → Result Answer Refusal
 force_answer (Some b) = Ok (InForce b)
 force_answer None = Err NoSuchEdit
+
+-- the edit is there: its note, if it has one
+abbrev pub note_answer : Option Numbered → Result Answer Refusal
+note_answer (Some x) = Ok (NoteIs (note_of x.edit))
+note_answer None = Err NoSuchEdit
 
 abbrev pub answer : Cells → List Numbered → Query → Result Answer Refusal
 answer s es (Get a i) = value_answer (get_answer s a i)
@@ -84,8 +92,9 @@ answer s es (Where d i) = locale_answer (where_answer s d i)
 answer s es (Piece a l) = piece_answer (piece_of s a l)
 answer s es (Reduce a op) = value_answer (reduce_answer s a op)
 answer s es (State k) = force_answer (force_of es k)
+answer s es (Note k) = note_answer (numbered_at es k)
 
--- A query is answered so; memory may run out where the answer is a list, and nowhere else.
+-- A query is answered so; memory may run out where the answer is a list or a note, and nowhere else.
 abbrev pub QueryReply : Cells → List Numbered → Query → Result Answer Refusal → Type 0
 QueryReply s es (Get a i) r = r ≡ answer s es (Get a i)
 QueryReply s es (Size d) r = r ≡ answer s es (Size d)
@@ -93,3 +102,4 @@ QueryReply s es (Where d i) r = r ≡ answer s es (Where d i)
 QueryReply s es (Piece a l) r = OrNoMemory (answer s es (Piece a l)) r
 QueryReply s es (Reduce a op) r = r ≡ answer s es (Reduce a op)
 QueryReply s es (State k) r = r ≡ answer s es (State k)
+QueryReply s es (Note k) r = OrNoMemory (answer s es (Note k)) r

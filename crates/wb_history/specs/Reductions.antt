@@ -18,6 +18,7 @@ use Rattle.wb_arrays.specs.Reductions.{reduction}
 use Rattle.wb_arrays.specs.declared.reduction.Op.{Op}
 use Rattle.wb_arrays.specs.declared.reduction.ReduceErr.{ReduceErr}
 use Rattle.wb_arrays.specs.declared.reduction.ReduceErr.TheVariants as none
+use Rattle.wb_edit.specs.Trees.{plain}
 
 -- a reduction in plain integers, if there is one and it is within 64 bits: a sum is judged once, as a whole
 abbrev pub reduced : Option ℤ → Result ℤ why.Refusal
@@ -35,6 +36,6 @@ reduce_answer s a op = reduce_from s a op (array_kind (get s (Object a)))
 -- what a workbook makes of the elements as an answer
 abbrev pub made_answer : Result ℤ ReduceErr → Result Answer Refusal
 made_answer (Ok z) = Ok (Value z)
-made_answer (Err none.Empty) = Err (Refused refusals.Empty)
-made_answer (Err none.Overflow) = Err (Refused refusals.Overflow)
+made_answer (Err none.Empty) = Err (Refused (plain refusals.Empty))
+made_answer (Err none.Overflow) = Err (Refused (plain refusals.Overflow))
 made_answer (Err none.NoMemory) = Err NoMemory

@@ -1,7 +1,7 @@
 ghost use Rattle.std.specs.Prelude.{◌≡◌, ℕ, ◌+◌, ◌-◌, ◌<◌, ◌≤◌, length, take, [], ◌∷◌, ◌++◌, OnOk, OnErr, IfOk, IfErr, Ok, Err, true, false, option_map};
 ghost use Rattle.selective_undo.specs.History.{replay, IsLegal};
 ghost use Rattle.wb_cells.specs.Cells.{written_more};
-ghost use Rattle.wb_edit.specs.Commands.{meaning};
+ghost use Rattle.wb_edit.specs.Edits.{meaning};
 ghost use Rattle.wb_log.specs.Cascades.{DependentsReply, CascadeReply, OfNumber, NoShorter, OthersStay, OtherCellsStay, all_out_of_force, places, set_back};
 ghost use Rattle.wb_log.specs.Past.{meant, out_of_force, into_force, force_of};
 ghost use Rattle.wb_log.specs.Records.{lent_edit};
@@ -11,6 +11,7 @@ ghost use Rattle.wb_history.specs.Queries.{QueryReply};
 ghost use Rattle.wb_history.specs.Restored.{one_of, numbered_at};
 
 use crate::locale::{locale_answer, locale_of};
+use crate::note::note_answer;
 use crate::piece::piece_answer;
 use crate::query::{Answer, Query, count_answer, element_of, force_answer, size_of, value_answer};
 use crate::reduction::reduce_answer;
@@ -294,7 +295,7 @@ impl History {
         steps::aside::keep_aside(self.alloc, &mut self.entries, aside)
     }
 
-    /// What a query is answered, from the workbook as it is; `NoMemory` may stand for a piece, and for nothing else. A
+    /// What a query is answered, from the workbook as it is; `NoMemory` may stand for a piece or a note, and for nothing else. A
     /// reduction is made by the threads of the mover, where that pays.
     pub fn query<M: Mover>(&self, query: &Query, mover: &M) -> Result<Answer, Refusal>
         ensures { QueryReply (replay (meant self.now.entries)) self.now.entries query.now result }
@@ -308,6 +309,7 @@ impl History {
             Query::Piece(array, locale) => piece_answer(self.alloc, self.book(), *array, *locale),
             Query::Reduce(array, op) => reduce_answer(self.book(), *array, *op, mover),
             Query::State(number) => force_answer(self.in_force(*number)),
+            Query::Note(number) => note_answer(self.alloc, self.edit_at(*number)),
         }
     }
 }

@@ -6,6 +6,7 @@
 mod history;
 pub mod laws;
 mod locale;
+mod note;
 mod piece;
 mod query;
 mod reduction;

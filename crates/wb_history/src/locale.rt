@@ -3,7 +3,7 @@
 ghost use Rattle.std.specs.Prelude.{◌≡◌};
 ghost use Rattle.wb_history.specs.Locales.{where_answer, locale_answer};
 
-use crate::query::Answer;
+use crate::query::{Answer, refused};
 use wb_book::Book;
 use wb_cells::{AnyIndex, Cell, Name};
 use wb_edit::judgements;
@@ -28,6 +28,6 @@ pub(crate) fn locale_answer(found: Result<usize, wb_cells::Refusal>) -> Result<A
 {
     match found {
         Ok(locale) => Ok(Answer::Locale(locale)),
-        Err(why) => Err(Refusal::Refused(why)),
+        Err(why) => Err(refused(why)),
     }
 }

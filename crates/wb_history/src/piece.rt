@@ -6,7 +6,7 @@ ghost use Rattle.wb_book.specs.Piecewise.Indexed.{indexed};
 ghost use Rattle.wb_book.specs.Piecewise.Lent.{lent};
 ghost use Rattle.wb_history.specs.Pieces.{piece_of, piece_answer, OrNoMemory};
 
-use crate::query::Answer;
+use crate::query::{Answer, refused};
 use std::alloc::Global;
 use std::marker::Model;
 use wb_book::{AsIndex, Book, Pairs};
@@ -121,10 +121,10 @@ pub(crate) fn piece_answer(
     let _formed = book.writes();
     match judgements::array_kind(book.get(&Cell::Object(array))) {
         Ok(_) => {}
-        Err(why) => return Err(Refusal::Refused(why)),
+        Err(why) => return Err(refused(why)),
     }
     match book.piece(&array, locale as usize) {
-        None => Err(Refusal::Refused(wb_cells::Refusal::OutOfDomain)),
+        None => Err(refused(wb_cells::Refusal::OutOfDomain)),
         Some(pairs) => match piece_of(alloc, pairs) {
             Ok(piece) => Ok(Answer::Piece(piece)),
             Err(_) => Err(Refusal::NoMemory),

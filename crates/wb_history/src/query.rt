@@ -1,13 +1,16 @@
 ghost use Rattle.std.specs.Prelude.{◌≡◌, None, IfOk};
 ghost use Rattle.std.specs.Bool.{Decides};
+ghost use Rattle.wb_edit.specs.Trees.{plain};
+ghost use Rattle.wb_log.specs.declared.refusal.Refusal.TheVariants.{Refused};
 ghost use Rattle.wb_history.specs.Queries.{element_or_implicit, get_answer, value_answer, size_answer, count_answer, force_answer};
 
+use crate::note::{copied_note, is_same_note};
 use crate::piece::Piece;
 use std::alloc::Global;
 use wb_arrays::Op;
 use wb_book::Book;
-use wb_cells::{AnyIndex, Cell, Kind, Name};
-use wb_edit::{element_or_refusal, has_implicit, judgements, parent_in};
+use wb_cells::{AnyIndex, Cell, EditRefusal, Kind, Name};
+use wb_edit::{Note, element_or_refusal, has_implicit, judgements, parent_in};
 use wb_log::Refusal;
 use wb_range::NoMemory;
 
@@ -26,6 +29,8 @@ pub enum Query {
     Reduce(Name, Op),
     /// Whether the edit of a number is in force.
     State(u64),
+    /// The note of the edit of a number.
+    Note(u64),
 }
 
 fn is_same_place(name: &Name, at: &AnyIndex, by: &Name, other: &AnyIndex) -> bool
@@ -61,6 +66,7 @@ impl Query {
                 *op == *other
             }
             (Query::State(number), Query::State(by)) => *number == *by,
+            (Query::Note(number), Query::Note(by)) => *number == *by,
             _ => false,
         }
     }
@@ -79,6 +85,8 @@ pub enum Answer {
     Piece(Piece),
     /// Whether an edit is in force.
     InForce(bool),
+    /// The note of an edit, if it has one.
+    Note(Option<Note>),
 }
 
 impl Answer {
@@ -92,6 +100,7 @@ impl Answer {
             Answer::Locale(locale) => Ok(Answer::Locale(*locale)),
             Answer::Piece(piece) => Ok(Answer::Piece(piece.copy(alloc)?)),
             Answer::InForce(in_force) => Ok(Answer::InForce(*in_force)),
+            Answer::Note(note) => Ok(Answer::Note(copied_note(alloc, note)?)),
         }
     }
 
@@ -105,6 +114,7 @@ impl Answer {
             (Answer::Locale(locale), Answer::Locale(by)) => *locale == *by,
             (Answer::Piece(piece), Answer::Piece(by)) => piece.is_same(by),
             (Answer::InForce(in_force), Answer::InForce(by)) => *in_force == *by,
+            (Answer::Note(note), Answer::Note(by)) => is_same_note(note, by),
             _ => false,
         }
     }
@@ -150,12 +160,19 @@ pub(crate) fn size_of(book: &Book, domain: Name) -> Result<usize, wb_cells::Refu
     Ok(book.size(&domain).unwrap_or(0))
 }
 
+/// Why a question has no answer.
+pub(crate) fn refused(why: wb_cells::Refusal) -> Refusal
+    ensures { result ≡ Refused (plain why) }
+{
+    Refusal::Refused(EditRefusal { why, at: None })
+}
+
 pub(crate) fn value_answer(found: Result<i64, wb_cells::Refusal>) -> Result<Answer, Refusal>
     ensures { result ≡ value_answer found }
 {
     match found {
         Ok(value) => Ok(Answer::Value(value)),
-        Err(why) => Err(Refusal::Refused(why)),
+        Err(why) => Err(refused(why)),
     }
 }
 
@@ -164,7 +181,7 @@ pub(crate) fn count_answer(found: Result<usize, wb_cells::Refusal>) -> Result<An
 {
     match found {
         Ok(count) => Ok(Answer::Size(count)),
-        Err(why) => Err(Refusal::Refused(why)),
+        Err(why) => Err(refused(why)),
     }
 }
 

@@ -4,7 +4,7 @@ ghost use Rattle.std.specs.Prelude.{◌≡◌};
 ghost use Rattle.wb_history.specs.Queries.{value_answer};
 ghost use Rattle.wb_history.specs.Reductions.{reduce_answer, made_answer};
 
-use crate::query::Answer;
+use crate::query::{Answer, refused};
 use wb_arrays::{Mover, Op, ReduceErr};
 use wb_book::Book;
 use wb_cells::{Cell, Name};
@@ -17,8 +17,8 @@ fn made_answer(made: Result<i64, ReduceErr>) -> Result<Answer, Refusal>
 {
     match made {
         Ok(value) => Ok(Answer::Value(value)),
-        Err(ReduceErr::Empty) => Err(Refusal::Refused(wb_cells::Refusal::Empty)),
-        Err(ReduceErr::Overflow) => Err(Refusal::Refused(wb_cells::Refusal::Overflow)),
+        Err(ReduceErr::Empty) => Err(refused(wb_cells::Refusal::Empty)),
+        Err(ReduceErr::Overflow) => Err(refused(wb_cells::Refusal::Overflow)),
         Err(ReduceErr::NoMemory) => Err(Refusal::NoMemory),
     }
 }
@@ -34,6 +34,6 @@ pub(crate) fn reduce_answer<M: Mover>(
 {
     match judgements::array_kind(book.get(&Cell::Object(array))) {
         Ok(_) => made_answer(book.reduce(&array, op, mover)),
-        Err(why) => Err(Refusal::Refused(why)),
+        Err(why) => Err(refused(why)),
     }
 }

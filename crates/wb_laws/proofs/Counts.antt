@@ -10,11 +10,10 @@ use Rattle.wb_cells.specs.Cells.{Cells, Changes, cell_cmp, is_counted, count_of}
 use Rattle.wb_cells.specs.WellFormed.{IsWellFormed}
 use Rattle.wb_cells.proofs.Empty.{empty_is_well_formed}
 use Rattle.wb_edit.specs.declared.edit.Edit as command
-use Rattle.wb_edit.specs.Commands.{meaning}
+use Rattle.wb_edit.specs.Edits.{meaning}
 use Rattle.wb_cells.specs.Schema.{workbook}
-use Rattle.wb_edit.specs.Valid.{IsValid, ListsOnce}
-use Rattle.wb_edit.proofs.Kept.{keeps_well_formed}
-use Rattle.wb_edit.proofs.Once.{each_cell_once}
+use Rattle.wb_edit.specs.Edits.{IsValid, ListsOnce}
+use Rattle.wb_edit.proofs.EachEdit.{keeps_well_formed, each_cell_once}
 use Rattle.wb_log.specs.Past.{Numbered, meant, entry_at, AreValid}
 use Rattle.wb_log.specs.Replies.{UndoReply}
 use Rattle.wb_laws.specs.Sizes.{HasSize}

@@ -5,9 +5,9 @@ use Rattle.selective_undo.specs.History.{undone, traces, replay, InForce}
 use Rattle.wb_cells.specs.declared.cells.cell.Cell.{Cell}
 use Rattle.wb_cells.specs.Cells.{is_counted}
 use Rattle.wb_edit.specs.declared.edit.Edit as command
-use Rattle.wb_edit.specs.Commands.{meaning}
+use Rattle.wb_edit.specs.Edits.{meaning}
 use Rattle.wb_cells.specs.Schema.{workbook}
-use Rattle.wb_edit.specs.Valid.{IsValid, ListsOnce}
+use Rattle.wb_edit.specs.Edits.{IsValid, ListsOnce}
 use Rattle.wb_log.specs.Past.{Numbered, meant, AreValid}
 use Rattle.wb_log.specs.Replies.{EditReply, UndoReply, LastReply, RedoReply, ByNumber}
 use Rattle.wb_laws.specs.Sizes.{HasSize}

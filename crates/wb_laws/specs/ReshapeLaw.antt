@@ -4,9 +4,9 @@ use Rattle.selective_undo.specs.Edit.{outcome, step}
 use Rattle.wb_cells.specs.Cells.{Name, Cells, Changes}
 use Rattle.wb_cells.specs.WellFormed.{IsWellFormed}
 use Rattle.wb_reshape.specs.declared.new_indices.NewIndices.{NewIndices}
-use Rattle.wb_edit.specs.declared.edit.Edit.TheVariants.{Reshape}
-use Rattle.wb_edit.specs.Commands.{meaning}
-use Rattle.wb_edit.specs.Valid.{IsValid}
+use Rattle.wb_edit.specs.declared.command.Command.TheVariants.{Reshape}
+use Rattle.wb_edit.specs.Commands.{command_meaning}
+use Rattle.wb_edit.specs.Valid.{IsValidCommand}
 use Rattle.wb_laws.specs.Reshaped.{is_of_source, IsReshaped}
 
 -- Where a valid reshape is accepted in a well-formed workbook, the domain has exactly the indices of its source after it, and
@@ -14,6 +14,6 @@ use Rattle.wb_laws.specs.Reshaped.{is_of_source, IsReshaped}
 abbrev pub ReshapeLaw : Type 0
 ReshapeLaw =
     (s : Cells) (d : Name) (source : NewIndices) (xs : Changes)
-    → IsWellFormed s → IsValid (Reshape d source)
-    → outcome (meaning (Reshape d source)) s ≡ Ok xs
-    → IsReshaped s (step (meaning (Reshape d source)) s) d (is_of_source s d source)
+    → IsWellFormed s → IsValidCommand (Reshape d source)
+    → outcome (command_meaning (Reshape d source)) s ≡ Ok xs
+    → IsReshaped s (step (command_meaning (Reshape d source)) s) d (is_of_source s d source)

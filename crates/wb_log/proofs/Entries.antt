@@ -8,7 +8,7 @@ use Rattle.selective_undo.specs.Log.{Footprint, IsKept, history, entry_of, footp
 use Rattle.selective_undo.proofs.Log.{get-map, set-map, append-map, kept_append, kept_undo, trace_there, undo_least}
 use Rattle.wb_cells.specs.Cells.{Changes, Contents, count_of}
 use Rattle.wb_cells.specs.Schema.{workbook}
-use Rattle.wb_edit.specs.Commands.{meaning}
+use Rattle.wb_edit.specs.Edits.{meaning}
 use Rattle.wb_edit.specs.Plans.{IsPlan}
 use Rattle.wb_edit.specs.declared.edit.Edit as command
 use Rattle.wb_edit.specs.declared.planning.PlanErr.{PlanErr}

@@ -12,9 +12,9 @@ use Rattle.wb_log.proofs.Entries.{history-log, kept-log, log_at}
 use Rattle.wb_cells.specs.declared.cells.pattern.Pattern.{Pattern}
 use Rattle.wb_cells.specs.Cells.{Cells, Changes, count_of, is_counted}
 use Rattle.wb_cells.specs.Schema.{workbook}
-use Rattle.wb_edit.specs.Commands.{meaning}
+use Rattle.wb_edit.specs.Edits.{meaning}
 use Rattle.wb_edit.specs.Plans.{IsPlan}
-use Rattle.wb_cells.specs.declared.refusal.Refusal as command_refusal
+use Rattle.wb_cells.specs.declared.refusal.EditRefusal as command_refusal
 use Rattle.wb_edit.specs.declared.planning.PlanErr.{PlanErr}
 use Rattle.wb_edit.specs.declared.planning.PlanErr.TheVariants.{Refused as PlanRefused, NoMemory as PlanNoMemory}
 use Rattle.wb_log.specs.declared.entry.Entry as kept
@@ -89,7 +89,7 @@ module _ (s : Cells) (es : List kept.Entry) (k : ℕ) (x : kept.Entry) (shows : 
           ),
         )
 
-    pub in_place_reply : (why : command_refusal.Refusal) → outcome (meaning x.edit) s ≡ Err why →
+    pub in_place_reply : (why : command_refusal.EditRefusal) → outcome (meaning x.edit) s ≡ Err why →
         redo_blocker es k (reads (meaning x.edit) s) (written (outcome (meaning x.edit) s)) ≡ None → RedoReply (entries_meant es) k (Err (RefusedInPlace why))
     in_place_reply why refused none =
         let free = redo_free (traces (history (log es))) k (k + 2) (trace (meaning x.edit) s) (first_is None none) in

@@ -9,7 +9,7 @@ use Rattle.selective_undo.specs.History.{Entry, undo, traces, InForce, CanUndo, 
 use Rattle.selective_undo.proofs.Log.{append-map, get-map, trace_there}
 use Rattle.wb_cells.specs.Cells.{written_more}
 use Rattle.wb_cells.specs.Schema.{workbook}
-use Rattle.wb_edit.specs.Commands.{meaning}
+use Rattle.wb_edit.specs.Edits.{meaning}
 use Rattle.wb_log.specs.declared.entry.Entry as kept
 use Rattle.wb_log.specs.declared.refusal.Refusal.{Refusal}
 use Rattle.wb_log.specs.declared.refusal.Refusal.TheVariants.{NotInForce, NoMemory}

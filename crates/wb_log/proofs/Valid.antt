@@ -10,9 +10,8 @@ use Rattle.wb_cells.specs.Cells.{Cells, Changes, Contents, count_of, written_mor
 use Rattle.wb_cells.specs.WellFormed.{IsWellFormed}
 use Rattle.wb_cells.proofs.Empty.{empty_is_well_formed}
 use Rattle.wb_edit.specs.declared.edit.Edit as command
-use Rattle.wb_edit.specs.Commands.{meaning}
-use Rattle.wb_edit.specs.Valid.{IsValid}
-use Rattle.wb_edit.proofs.Kept.{keeps_well_formed}
+use Rattle.wb_edit.specs.Edits.{meaning, IsValid}
+use Rattle.wb_edit.proofs.EachEdit.{keeps_well_formed}
 use Rattle.wb_log.specs.declared.entry.Entry as kept
 use Rattle.wb_log.specs.declared.entry.Kept.{Kept}
 use Rattle.wb_log.specs.declared.refusal.Refusal.{Refusal}

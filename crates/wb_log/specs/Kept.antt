@@ -9,9 +9,9 @@ use Rattle.wb_cells.specs.Cells.{Cells, Changes, Contents, count_of, written_mor
 use Rattle.wb_cells.specs.WellFormed.{IsWellFormed}
 use Rattle.wb_edit.specs.declared.planning.PlanErr.{PlanErr}
 use Rattle.wb_edit.specs.declared.planning.PlanErr.TheVariants.{Refused as PlanRefused, NoMemory as PlanNoMemory}
-use Rattle.wb_cells.specs.declared.refusal.Refusal as command_refusal
+use Rattle.wb_cells.specs.declared.refusal.EditRefusal as command_refusal
 use Rattle.wb_cells.specs.Schema.{workbook}
-use Rattle.wb_edit.specs.Commands.{meaning}
+use Rattle.wb_edit.specs.Edits.{meaning}
 use Rattle.wb_footprints.specs.Footprints.{Footprints}
 use Rattle.wb_log.specs.declared.entry.Entry as kept
 use Rattle.wb_log.specs.declared.entry.Kept.{Kept}
@@ -92,7 +92,7 @@ plan_refusal PlanNoMemory = NoMemory
 abbrev pub redo_blocker : List kept.Entry → ℕ → List Pattern → Changes → Option ℕ
 redo_blocker es k rs xs = first_from (blocks_redo (footprint rs xs)) (k + 2) (drop (k + 1) (kept_all es))
 
-abbrev pub in_place : Option ℕ → command_refusal.Refusal → Refusal
+abbrev pub in_place : Option ℕ → command_refusal.EditRefusal → Refusal
 in_place (Some by) why = Blocked by
 in_place None why = RefusedInPlace why
 

@@ -6,8 +6,8 @@ use Rattle.selective_undo.specs.History as h
 use Rattle.wb_edit.specs.contracts.edit.Edit as edit_row
 use Rattle.wb_edit.specs.declared.edit.Edit as command
 use Rattle.wb_cells.specs.Schema.{workbook}
-use Rattle.wb_edit.specs.Commands.{meaning}
-use Rattle.wb_edit.specs.Valid.{IsValid}
+use Rattle.wb_edit.specs.Edits.{meaning}
+use Rattle.wb_edit.specs.Edits.{IsValid}
 
 -- an edit of a history, with whether it is in force
 pub record Numbered : Type 0 where

@@ -13,7 +13,8 @@ use Rattle.wb_cells.specs.Schema.{workbook}
 use Rattle.wb_cells.specs.Shapes.{Range, indices}
 use Rattle.wb_edit.specs.declared.asked_rectangle.AskedRectangle.TheVariants.{Ranges}
 use Rattle.wb_edit.specs.declared.edit.Edit as command
-use Rattle.wb_edit.specs.declared.edit.Edit.TheVariants.{Set as SetTo, Copy as CopyTo, Irv as IrvTo, Add, Remove, Fill as FillWith}
+use Rattle.wb_edit.specs.declared.edit.Edit.TheVariants.{Command as OneCommand}
+use Rattle.wb_edit.specs.declared.command.Command.TheVariants.{Set as SetTo, Copy as CopyTo, Irv as IrvTo, Add, Remove, Fill as FillWith}
 use Rattle.wb_log.specs.declared.entry.Before.{Before}
 use Rattle.wb_log.specs.declared.entry.Before.TheVariants.{Number, Present, Nothing}
 use Rattle.wb_log.specs.declared.entry.Was.{Was}
@@ -42,8 +43,8 @@ implicit_reads a = One (Object a) ∷ []
 
 -- an index comes to a domain, or leaves it
 abbrev pub member_edit : Bool → Name → Index → command.Edit
-member_edit true d i = Add d i
-member_edit false d i = Remove d i
+member_edit true d i = OneCommand (Add d i)
+member_edit false d i = OneCommand (Remove d i)
 
 -- what either reads where nothing is bound to the domain and no parent is asked: the domain, the index, and what is bound
 abbrev pub member_reads : Name → Index → List Pattern
@@ -98,11 +99,11 @@ kept_of (Whole w) old = None
 
 -- the entry that a form stands for
 abbrev pub shown : Form → Entry
-shown (Set x) = record { edit = SetTo x.array x.place x.value; kept = kept_of (Set x) (before_in x.was) }
-shown (Copy x) = record { edit = CopyTo x.value.array x.value.place x.value.source x.value.from x.value.more; kept = kept_of (Copy x) (before_in x.value.was) }
-shown (Irv x) = record { edit = IrvTo x.array x.value; kept = kept_of (Irv x) (before_in x.was) }
+shown (Set x) = record { edit = OneCommand (SetTo x.array x.place x.value); kept = kept_of (Set x) (before_in x.was) }
+shown (Copy x) = record { edit = OneCommand (CopyTo x.value.array x.value.place x.value.source x.value.from x.value.more); kept = kept_of (Copy x) (before_in x.value.was) }
+shown (Irv x) = record { edit = OneCommand (IrvTo x.array x.value); kept = kept_of (Irv x) (before_in x.was) }
 shown (OneMember x) = record { edit = member_edit x.comes x.domain x.place; kept = kept_of (OneMember x) (before_in x.was) }
-shown (Fill x) = record { edit = FillWith x.value.array (Ranges x.value.on) x.value.value; kept = kept_of (Fill x) (before_in x.value.was) }
+shown (Fill x) = record { edit = OneCommand (FillWith x.value.array (Ranges x.value.on) x.value.value); kept = kept_of (Fill x) (before_in x.value.was) }
 shown (Whole w) = w.value
 
 -- the edit that is lent

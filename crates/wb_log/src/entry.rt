@@ -5,7 +5,8 @@ ghost use Rattle.selective_undo.specs.Changes.{AllOnce};
 ghost use Rattle.wb_cells.specs.declared.cells.cell.Cell.TheVariants as cell;
 ghost use Rattle.wb_cells.specs.declared.cells.pattern.Pattern.TheVariants as pattern;
 ghost use Rattle.wb_cells.specs.Cells.{cell_cmp};
-ghost use Rattle.wb_edit.specs.declared.edit.Edit.TheVariants as command;
+ghost use Rattle.wb_edit.specs.declared.command.Command.TheVariants as command;
+ghost use Rattle.wb_edit.specs.declared.edit.Edit.TheVariants.{Command as OneCommand};
 ghost use Rattle.wb_cells.specs.Reads.{all_read};
 ghost use Rattle.wb_log.specs.Kept.{kept_in};
 ghost use Rattle.wb_edit.specs.declared.asked_rectangle.AskedRectangle.TheVariants as asked_for;
@@ -17,7 +18,7 @@ use std::marker::Model;
 use wb_cells::{
     AnyCell, AnyIndex, AnyRect, Cell, CellChange, Changes, Inverse, Name, Pattern, ReadRun, Value,
 };
-use wb_edit::{AskedRectangle, Edit, Footprint};
+use wb_edit::{AskedRectangle, Command, Edit, Footprint};
 use wb_range::NoMemory;
 
 /// What an edit in force read, and what takes it back.
@@ -266,9 +267,9 @@ fn element_pattern(array: &Name, place: &AnyIndex) -> Pattern
 impl Element {
     /// The edit.
     pub(crate) fn edit(&self) -> Edit
-        ensures { result ≡ command.Set self.now.array self.now.place self.now.value }
+        ensures { result ≡ OneCommand (command.Set self.now.array self.now.place self.now.value) }
     {
-        Edit::Set(self.array, self.place, self.value)
+        Edit::Command(Command::Set(self.array, self.place, self.value))
     }
 
     /// The cell that the edit changes.
@@ -292,9 +293,9 @@ impl Element {
 impl Copied {
     /// The edit.
     pub(crate) fn edit(&self) -> Edit
-        ensures { result ≡ command.Copy self.now.array self.now.place self.now.source self.now.from self.now.more }
+        ensures { result ≡ OneCommand (command.Copy self.now.array self.now.place self.now.source self.now.from self.now.more) }
     {
-        Edit::Copy(self.array, self.place, self.source, self.from, self.more)
+        Edit::Command(Command::Copy(self.array, self.place, self.source, self.from, self.more))
     }
 
     /// The cell that the edit changes.
@@ -320,9 +321,9 @@ impl Copied {
 impl Implicit {
     /// The edit.
     pub(crate) fn edit(&self) -> Edit
-        ensures { result ≡ command.Irv self.now.array self.now.value }
+        ensures { result ≡ OneCommand (command.Irv self.now.array self.now.value) }
     {
-        Edit::Irv(self.array, self.value)
+        Edit::Command(Command::Irv(self.array, self.value))
     }
 
     /// The cell that the edit changes.
@@ -346,9 +347,9 @@ impl Member {
         ensures { result ≡ member_edit self.now.comes self.now.domain self.now.place }
     {
         if self.comes {
-            Edit::Add(self.domain, self.place)
+            Edit::Command(Command::Add(self.domain, self.place))
         } else {
-            Edit::Remove(self.domain, self.place)
+            Edit::Command(Command::Remove(self.domain, self.place))
         }
     }
 
@@ -374,9 +375,9 @@ impl Member {
 impl Filled {
     /// The edit.
     pub(crate) fn edit(&self) -> Edit
-        ensures { result ≡ command.Fill self.now.array (asked_for.Ranges self.now.on) self.now.value }
+        ensures { result ≡ OneCommand (command.Fill self.now.array (asked_for.Ranges self.now.on) self.now.value) }
     {
-        Edit::Fill(self.array, AskedRectangle::Ranges(self.on), self.value)
+        Edit::Command(Command::Fill(self.array, AskedRectangle::Ranges(self.on), self.value))
     }
 
     /// The cell that the edit changes.
@@ -540,7 +541,7 @@ fn member_aside(domain: &Name, place: &AnyIndex, comes: bool) -> Form
 
 // A fill at the one index of a rectangle, out of force.
 fn fill_aside(alloc: Global, array: &Name, on: &AnyRect, value: i64) -> Result<Form, NoMemory>
-    ensures { IfOk result (λ f. shown f ≡ record { edit = command.Fill array.now (asked_for.Ranges on.now) value; kept = None }) }
+    ensures { IfOk result (λ f. shown f ≡ record { edit = OneCommand (command.Fill array.now (asked_for.Ranges on.now) value); kept = None }) }
 {
     let filled = Filled {
         array: *array,
@@ -573,18 +574,18 @@ fn form_aside(alloc: Global, edit: Edit) -> Result<Form, NoMemory>
     ensures { IfOk result (λ f. shown f ≡ record { edit = edit; kept = None }) }
 {
     match &edit {
-        Edit::Set(array, place, value) => Ok(Form::Set(Element {
+        Edit::Command(Command::Set(array, place, value)) => Ok(Form::Set(Element {
             array: *array,
             place: *place,
             value: *value,
             was: Was::Untold,
         })),
-        Edit::Irv(array, value) => Ok(Form::Irv(Implicit {
+        Edit::Command(Command::Irv(array, value)) => Ok(Form::Irv(Implicit {
             array: *array,
             value: *value,
             was: Was::Untold,
         })),
-        Edit::Copy(array, place, source, from, more) => {
+        Edit::Command(Command::Copy(array, place, source, from, more)) => {
             let copied = Copied {
                 array: *array,
                 place: *place,
@@ -595,9 +596,9 @@ fn form_aside(alloc: Global, edit: Edit) -> Result<Form, NoMemory>
             };
             Ok(Form::Copy(Box::new(alloc, copied)?))
         }
-        Edit::Add(domain, place) => Ok(member_aside(domain, place, true)),
-        Edit::Remove(domain, place) => Ok(member_aside(domain, place, false)),
-        Edit::Fill(array, asked, value) => match ranges_of_one(asked) {
+        Edit::Command(Command::Add(domain, place)) => Ok(member_aside(domain, place, true)),
+        Edit::Command(Command::Remove(domain, place)) => Ok(member_aside(domain, place, false)),
+        Edit::Command(Command::Fill(array, asked, value)) => match ranges_of_one(asked) {
             Some(on) => fill_aside(alloc, array, &on, *value),
             None => whole_aside(alloc, edit),
         },

@@ -2,6 +2,7 @@ ghost use Rattle.std.specs.Prelude.{◌≡◌};
 ghost use Rattle.std.specs.Bool.{Decides};
 
 use thiserror::Error;
+use wb_cells::EditRefusal;
 
 /// Why a request is refused. The text of each is its name in a reply.
 #[derive(Clone, Copy, Debug, PartialEq, Eq, Error)]
@@ -14,7 +15,7 @@ pub enum Refusal {
     BadLiteral,
     /// E03 to E10, E15 and E18: the edit or the query is refused.
     #[error("{0}")]
-    Refused(wb_cells::Refusal),
+    Refused(EditRefusal),
     /// E11: no edit of that number, or nothing in force for undo of the latest.
     #[error("no-such-edit")]
     NoSuchEdit,
@@ -29,7 +30,7 @@ pub enum Refusal {
     Blocked(u64),
     /// E16: redo of an edit that would be refused now.
     #[error("refused-in-place")]
-    RefusedInPlace(wb_cells::Refusal),
+    RefusedInPlace(EditRefusal),
     /// E90: a growth was refused, or a mover had no thread.
     #[error("no-memory")]
     NoMemory,

@@ -1,10 +1,15 @@
 -- What a line costs while a desk is locked for it, about, in bytes; and no line costs more than a whole turn may.
-use Rattle.std.specs.Prelude.{ℕ, ◌+◌, ◌-◌, ◌*◌, min, List, length, slice_get, Option, None, Some, Result, Ok, Err}
+use Rattle.std.specs.Prelude.{ℕ, ◌+◌, ◌-◌, ◌*◌, min, List, [], ◌∷◌, length, slice_get, Option, None, Some, Result, Ok, Err}
 use Rattle.wb_lines.specs.Turns.{cost_limit}
+use Rattle.wb_edit.specs.declared.command.Command.{Command}
+use Rattle.wb_edit.specs.declared.command.Command.TheVariants.{Domain, Remap, Sparse, Assoc, Array, Set, Irv, Copy, Fill, Put, FillAll, DropArray, All, Add, Remove}
+use Rattle.wb_edit.specs.declared.command.Command.TheVariants.{DropDomain, Reshape}
+use Rattle.wb_edit.specs.declared.edit.Edit.{Edit}
+use Rattle.wb_edit.specs.declared.edit.Edit.TheVariants.{Command as OneCommand, Transaction, Load}
 use Rattle.wb_history.specs.declared.query.Answer.{Answer}
 use Rattle.wb_history.specs.declared.query.Answer.TheVariants as answers
 use Rattle.wb_history.specs.declared.query.Query.{Query}
-use Rattle.wb_history.specs.declared.query.Query.TheVariants.{Get, Size, Where, Piece, Reduce, State}
+use Rattle.wb_history.specs.declared.query.Query.TheVariants.{Get, Size, Where, Piece, Reduce, State, Note}
 use Rattle.wb_log.specs.declared.refusal.Refusal.{Refusal}
 use Rattle.wb_protocol.specs.declared.replies.reply.Reply.{Reply}
 use Rattle.wb_protocol.specs.declared.replies.reply.Reply.TheVariants.{Edited, Undone, Cascaded, Redone, Listed, Answered, Printed, PrintedFrom, Counted, Explained, Refused}
@@ -21,6 +26,7 @@ answer_cost (answers.Size n) = 0
 answer_cost (answers.Locale l) = 0
 answer_cost (answers.Piece pairs) = 16 * length pairs
 answer_cost (answers.InForce b) = 0
+answer_cost (answers.Note n) = 0
 
 -- eight for each cell that was changed or set back, sixteen for each number of a list, and the length of a text
 abbrev pub told_cost : Reply → ℕ
@@ -55,10 +61,41 @@ look_cost (Where d i) = 0
 look_cost (Piece a l) = 0
 look_cost (Reduce a op) = cost_limit
 look_cost (State k) = 0
+look_cost (Note k) = 0
+
+-- eight for a command that is about one cell; others may be about all elements of an array
+abbrev pub command_cost : Command → ℕ
+command_cost (Set a i v) = 8
+command_cost (Irv a v) = 8
+command_cost (Copy a i b j c) = 8
+command_cost (Add d i) = 8
+command_cost (Remove d i) = 8
+command_cost (Domain d asked m) = cost_limit
+command_cost (Remap d m) = cost_limit
+command_cost (Sparse d parent) = cost_limit
+command_cost (Assoc d type) = cost_limit
+command_cost (Array a d) = cost_limit
+command_cost (Fill a asked v) = cost_limit
+command_cost (Put a asked) = cost_limit
+command_cost (FillAll a v) = cost_limit
+command_cost (DropArray a) = cost_limit
+command_cost (All a how b) = cost_limit
+command_cost (DropDomain d) = cost_limit
+command_cost (Reshape d source) = cost_limit
+
+abbrev pub commands_cost : List Command → ℕ
+commands_cost [] = 0
+commands_cost (c ∷ cs) = command_cost c + commands_cost cs
+
+-- What a single edit costs its reply tells; of several it tells each cell once, and nothing where they are refused.
+abbrev pub edit_cost : Edit → ℕ
+edit_cost (OneCommand c) = 0
+edit_cost (Transaction t) = min cost_limit (commands_cost t.0)
+edit_cost (Load text) = 0
 
 -- Dependents are looked for in the whole history, and a line that is explained is read, and its literals.
 abbrev pub request_cost : Request → ℕ
-request_cost (Change e) = 0
+request_cost (Change e) = edit_cost e
 request_cost (Undo k) = 0
 request_cost (Redo k) = 0
 request_cost (Cascade k) = cost_limit

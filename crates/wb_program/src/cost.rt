@@ -2,9 +2,10 @@
 //! lists, and the text that it printed; and no more than a whole turn may.
 ghost use Rattle.std.specs.Prelude.{◌≡◌, ◌+◌, ◌*◌, length, min};
 ghost use Rattle.wb_lines.specs.Turns.{cost_limit};
-ghost use Rattle.wb_program.specs.Costs.{answer_cost, told_cost, last_cost, look_cost, request_cost, asked_cost};
+ghost use Rattle.wb_program.specs.Costs.{answer_cost, told_cost, last_cost, look_cost, command_cost, commands_cost, edit_cost, request_cost, asked_cost};
 
 use wb_desk::{Opening, Pass};
+use wb_edit::{Command, Edit};
 use wb_history::{Answer, Query, Refusal};
 use wb_kept_seats::Said;
 use wb_protocol::{Reply, Request};
@@ -62,12 +63,57 @@ fn cost_of_request(request: &Request) -> u64
         Request::Ask(query) => cost_to_look(query),
         Request::Dependents(_) | Request::Cascade(_) => WHOLE_TURN,
         Request::Explain(line) => cost_of_many(line.as_str().len(), 1),
-        Request::Change(_)
-        | Request::Undo(_)
+        Request::Change(edit) => cost_of_edit(edit),
+        Request::Undo(_)
         | Request::Redo(_)
         | Request::Print
         | Request::History(_)
         | Request::Edits => 0,
+    }
+}
+
+// Several commands may have done much that the reply does not tell of.
+fn cost_of_edit(edit: &Edit) -> u64
+    ensures { result ≡ edit_cost edit.now }
+{
+    match edit {
+        Edit::Transaction(several) => cost_of_commands(several.commands()),
+        Edit::Command(_) | Edit::Load(_) => 0,
+    }
+}
+
+fn cost_of_commands(commands: &[Command]) -> u64
+    ensures { result ≡ min cost_limit (commands_cost commands.now) }
+{
+    let mut cost = 0;
+    for command in commands {
+        cost = cost_of_both(cost, cost_of_command(command));
+    }
+    cost
+}
+
+// A command that is about one cell costs little.
+fn cost_of_command(command: &Command) -> u64
+    ensures { result ≡ command_cost command.now }
+{
+    match command {
+        Command::Set(_, _, _)
+        | Command::Irv(_, _)
+        | Command::Copy(_, _, _, _, _)
+        | Command::Add(_, _)
+        | Command::Remove(_, _) => CELL,
+        Command::Domain(_, _, _)
+        | Command::Remap(_, _)
+        | Command::Sparse(_, _)
+        | Command::Assoc(_, _)
+        | Command::Array(_, _)
+        | Command::Fill(_, _, _)
+        | Command::Put(_, _)
+        | Command::FillAll(_, _)
+        | Command::DropArray(_)
+        | Command::All(_, _, _)
+        | Command::DropDomain(_)
+        | Command::Reshape(_, _) => WHOLE_TURN,
     }
 }
 
@@ -81,7 +127,8 @@ fn cost_to_look(query: &Query) -> u64
         | Query::Size(_)
         | Query::Where(_, _)
         | Query::Piece(_, _)
-        | Query::State(_) => 0,
+        | Query::State(_)
+        | Query::Note(_) => 0,
     }
 }
 
@@ -106,7 +153,11 @@ fn cost_of_answer(answer: &Answer) -> u64
 {
     match answer {
         Answer::Piece(piece) => cost_of_many(piece.pairs().len(), NUMBER),
-        Answer::Value(_) | Answer::Size(_) | Answer::Locale(_) | Answer::InForce(_) => 0,
+        Answer::Value(_)
+        | Answer::Size(_)
+        | Answer::Locale(_)
+        | Answer::InForce(_)
+        | Answer::Note(_) => 0,
     }
 }
 

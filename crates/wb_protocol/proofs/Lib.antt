@@ -2,6 +2,7 @@ pub mod Encodings
 pub mod Counts
 pub mod Told
 pub mod Puts
+pub mod Several
 pub mod Lines
 pub mod Pieces
 pub mod Texts

@@ -2,6 +2,8 @@ pub mod Members
 pub mod Values
 pub mod Spellings
 pub mod Steps
+pub mod Several
+pub mod Parts
 pub mod Found
 pub mod Read
 pub mod Encoded
@@ -13,6 +15,7 @@ pub mod Failing
 pub mod Judged
 pub mod RefusedPlain
 pub mod Refused
+pub mod RefusedSeveral
 pub mod Listed
 pub mod Ranges
 pub mod Rectangles

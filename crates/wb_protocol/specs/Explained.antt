@@ -1,25 +1,25 @@
 -- What is wrong with a line: the code that it is refused by, the field, and the rule that this breaks. Of all that is wrong it
 -- is the first with the least code: first the line and its op, then which members there are, then their values in the order of
--- the op's form, then how many numbers a put has.
-use Rattle.std.specs.Prelude.{◌≡◌, ◌≢◌, ℕ, ℤ, Bool, true, false, List, [], ◌∷◌, length, codes, bytes_eq, nat_eq, nat_lt, if◌then◌else◌, Contains}
+-- the op's form, then how many numbers a put has, and then the commands of a transaction, one after another.
+use Rattle.std.specs.Prelude.{◌≡◌, ◌≢◌, ℕ, suc, ℤ, Bool, true, false, List, [], ◌∷◌, length, codes, bytes_eq, nat_eq, nat_lt, if◌then◌else◌, Contains}
 use Rattle.std.specs.Prelude.{Option, Some, None, is_some, option_map, option_and_then, Result, Ok, Err}
 use Rattle.std.specs.Option.{ok_or}
 use Rattle.std.specs.Str.{is_utf8}
 use Rattle.std.specs.List.{list_all}
-use Rattle.serde_json.specs.Data.{Data, null, boolean, number as json_number, string, array, object, Members, no_members, member}
-use Rattle.serde_json.specs.Find.{get_member, as_number, as_str, as_i64, as_u64}
+use Rattle.serde_json.specs.Data.{Data, null, boolean, number as json_number, string, array, object, Items, no_items, item, Members, no_members, member}
+use Rattle.serde_json.specs.Find.{get_item, get_member, as_number, as_str, as_i64, as_u64}
 use Rattle.serde_json.specs.Read.{read}
 use Rattle.wb_cells.specs.Shapes.{Range, indices}
-use Rattle.wb_cells.specs.declared.refusal.Refusal.TheVariants as edits
 use Rattle.wb_literals.specs.Domain.{Domain, rectangle, set}
 use Rattle.wb_log.specs.declared.refusal.Refusal.{Refusal}
-use Rattle.wb_log.specs.declared.refusal.Refusal.TheVariants.{BadRequest, BadLiteral, Refused}
-use Rattle.wb_protocol.specs.Fields.{◌>>=◌, member_count, name_of, index_of, integers_of, key_type_of, operation_of, reduction_of}
+use Rattle.wb_log.specs.declared.refusal.Refusal.TheVariants.{BadRequest}
+use Rattle.wb_protocol.specs.Fields.{◌>>=◌, member_count, name_of, index_of, integers_of, key_type_of, operation_of, reduction_of, note_in, several_of, is_among}
+use Rattle.wb_protocol.specs.Encoding.Table.{command_ops}
 use Rattle.wb_protocol.specs.Literals.{literal_domain, literal_mapping, text_of_book, domain_within, mapping_within}
 use Rattle.wb_protocol.specs.Sources.{given_by, offsets_by}
-use Rattle.wb_protocol.specs.Wire.Faults.{Fault, bad_request, bad_literal, too_large, bad_mapping, code, forms, Plain, Kind, plain, domain, mapping, source}
-use Rattle.wb_protocol.specs.Wire.Faults.{workbook, name, integer, number, index, integers, offsets, key_type, operation, reduction, any_text, kind_of}
-use Rattle.wb_protocol.specs.Wire.Faults.{Fails, NamesOp, IsWhole, IsMiscounted, IsLeastFault}
+use Rattle.wb_protocol.specs.Wire.Faults.{Fault, bad_request, bad_literal, too_large, bad_mapping, code, fault_told, forms, Plain, Kind, plain, domain, mapping, source}
+use Rattle.wb_protocol.specs.Wire.Faults.{workbook, name, integer, number, index, integers, offsets, key_type, operation, reduction, any_text, note, several, kind_of}
+use Rattle.wb_protocol.specs.Wire.Faults.{Fails, NamesOp, IsWhole, IsMiscounted, NamesCommand, IsLeastFault}
 use Rattle.wb_protocol.specs.Wire.Spelled.{IsRequest}
 use Rattle.wb_protocol.specs.declared.requests.request.Request.{Request}
 
@@ -40,31 +40,29 @@ pub data Rule : Type 0 where
   spells : Kind → Rule
   -- of the numbers of a put: they are as many as the indices
   are_counted : Rule
+  -- of a command within a transaction: its op is that of a command
+  names_command : Rule
 
--- what is wrong: a fault of a field, or of the whole where there is none, and the rule that it breaks
+-- what is wrong: a fault of a field, or of the whole where there is none, and the rule that it breaks; of a command within a
+-- transaction its place too, from 0
 pub record Explanation : Type 0 where
   pub fault : Fault
   pub field : Option (List ℕ)
   pub rule : Rule
+  pub at : Option ℕ
 
 -- what no value has to do with is a bad request
 abbrev pub of_whole : Rule → Explanation
-of_whole rule = record { fault = bad_request; field = None; rule = rule }
+of_whole rule = record { fault = bad_request; field = None; rule = rule; at = None }
 
 -- what is wrong with a field
 abbrev pub at_field : Fault → List ℕ → Rule → Explanation
-at_field f key rule = record { fault = f; field = Some key; rule = rule }
+at_field f key rule = record { fault = f; field = Some key; rule = rule; at = None }
 
 abbrev pub of_field : List ℕ → Rule → Explanation
 of_field key rule = at_field bad_request key rule
 
 -- ---- the fault of a value
-
-abbrev pub fault_told : Refusal → Fault
-fault_told BadLiteral = bad_literal
-fault_told (Refused edits.TooLarge) = too_large
-fault_told (Refused edits.BadMapping) = bad_mapping
-fault_told _ = bad_request
 
 -- why a value is refused, if it is
 abbrev pub fault_in : {X : Type 0} → Result X Refusal → Option Fault
@@ -90,6 +88,8 @@ fault_of (plain key_type) d = fault_in (text_in d >>= key_type_of)
 fault_of (plain operation) d = fault_in (text_in d >>= operation_of)
 fault_of (plain reduction) d = fault_in (text_in d >>= reduction_of)
 fault_of (plain any_text) d = fault_in (text_in d)
+fault_of (plain note) d = fault_in (text_in d >>= note_in)
+fault_of (plain several) d = fault_in (ok_or (several_of d) BadRequest)
 fault_of domain d = fault_in (text_in d >>= (λ text. literal_domain text >>= within))
 fault_of mapping d = fault_in (text_in d >>= (λ text. literal_mapping text >>= mapping_within))
 fault_of source d = fault_in (given_by d)
@@ -201,9 +201,46 @@ abbrev pub op_explained : Members → List ℕ → List (List (List ℕ)) → Op
 op_explained ms op [] = Some (of_field (codes "op") names_op)
 op_explained ms op (f ∷ fs) = formed ms op (form_in ms (f ∷ fs)) (formless ms f fs)
 
+-- ---- a command within a transaction
+
+abbrev pub command_named : Members → Option (List ℕ) → Option Explanation
+command_named ms None = Some (of_field (codes "op") names_command)
+command_named ms (Some op) = if is_among command_ops op then op_explained ms op (forms_of op forms) else Some (of_field (codes "op") names_command)
+
+-- what is wrong with a JSON value that is to be a command
+abbrev pub command_explained : Data → Option Explanation
+command_explained (object ms) = command_named ms (option_and_then as_str (get_member (codes "op") ms))
+command_explained null = Some (of_whole is_object)
+command_explained (boolean b) = Some (of_whole is_object)
+command_explained (json_number n) = Some (of_whole is_object)
+command_explained (string t) = Some (of_whole is_object)
+command_explained (array ds) = Some (of_whole is_object)
+
+-- the same, told of the command at a place
+abbrev pub at_place : ℕ → Explanation → Explanation
+at_place k x = record { fault = x.fault; field = x.field; rule = x.rule; at = Some k }
+
+-- the first with the least code of several commands, the first of which is at this place
+abbrev pub commands_explained : ℕ → Items → Option Explanation
+commands_explained k no_items = None
+commands_explained k (item d ds) = least_of (option_map (at_place k) (command_explained d)) (commands_explained (suc k) ds)
+
+abbrev pub listed_explained : Option Data → Option Explanation
+listed_explained (Some (array ds)) = commands_explained 0 ds
+listed_explained _ = None
+
+-- and only a transaction has commands
+abbrev pub edits_explained : List ℕ → Members → Option Explanation
+edits_explained op ms = if bytes_eq op (codes "transaction") then listed_explained (get_member (codes "edits") ms) else None
+
+-- what is wrong with the object itself is told first: of a transaction it is a bad request, and no code is less
+abbrev pub before_edits : Option Explanation → Option Explanation → Option Explanation
+before_edits (Some x) more = Some x
+before_edits None more = more
+
 abbrev pub op_named : Members → Option (List ℕ) → Option Explanation
 op_named ms None = Some (of_field (codes "op") names_op)
-op_named ms (Some op) = op_explained ms op (forms_of op forms)
+op_named ms (Some op) = before_edits (op_explained ms op (forms_of op forms)) (edits_explained op ms)
 
 -- the members of an object; another value has none
 abbrev pub members_in : Data → Members
@@ -244,6 +281,8 @@ plain_rule key_type = codes "int or text"
 plain_rule operation = codes "=, +, - or *"
 plain_rule reduction = codes "+, min or max"
 plain_rule any_text = codes "a text"
+plain_rule note = codes "a text of at most 256 bytes without quotes, backslashes and control characters"
+plain_rule several = codes "an array of 1 to 4096 edits"
 
 -- what a literal has to be, by how it fails
 abbrev pub literal_rule : List ℕ → List ℕ → List ℕ → Fault → List ℕ
@@ -268,6 +307,7 @@ rule_text has_all f = codes "each field that the op has"
 rule_text has_one_of f = codes "one of the fields to, slice, translate, expand, or, and, minus and xor"
 rule_text (spells kind) f = spelled_rule kind f
 rule_text are_counted f = codes "as many numbers as the rectangle has indices"
+rule_text names_command f = codes "an op that changes a domain or an array"
 
 -- ---- what is promised of it
 
@@ -311,14 +351,30 @@ AtField d (Some key) are_counted f = (key ≡ codes "vs") × IsMiscounted d
 AtField d (Some key) names_op f = (key ≡ codes "op") × NamesNone d
 AtField d (Some key) has_no_more f = HasForeign d key
 AtField d (Some key) has_all f = LacksField d key
+AtField d (Some key) names_command f = (key ≡ codes "op") × (NamesCommand d → ⊥)
 AtField d None is_object f = (ms : Members) → d ≡ object ms → ⊥
 AtField d None has_one_of f = IsWhole d → ⊥
 AtField d _ _ f = ⊥
 
+-- the same of a command at a place within a transaction
+pub record AtPlace (d : Data) (place : ℕ) (field : Option (List ℕ)) (rule : Rule) (f : Fault) : Type 0 where
+  pub members : Members
+  pub listed : Items
+  pub value : Data
+  pub object_is : d ≡ object members
+  pub op_is : NamesOp members (codes "transaction")
+  pub edits_are : get_member (codes "edits") members ≡ Some (array listed)
+  pub value_is : get_item place listed ≡ Some value
+  pub told : AtField value field rule f
+
+abbrev pub AtPlaceOr : Data → Option ℕ → Option (List ℕ) → Rule → Fault → Type 0
+AtPlaceOr d None field rule f = AtField d field rule f
+AtPlaceOr d (Some k) field rule f = AtPlace d k field rule f
+
 -- Nothing is wrong with a request; of anything else a fault is told whose code is the least of all, where it is.
 abbrev pub Tells : Data → Option Explanation → Type 0
 Tells d None = (r : Request) × IsRequest d r
-Tells d (Some x) = IsLeastFault d x.fault × AtField d x.field x.rule x.fault
+Tells d (Some x) = IsLeastFault d x.fault × AtPlaceOr d x.at x.field x.rule x.fault
 
 -- the law
 abbrev pub TellsTheLeast : Type 0

@@ -1,9 +1,10 @@
 -- The fields of a request, which is a JSON object (RFC 8259, section 4): its members, looked up by their names. A field
 -- that isn't there, or isn't of its type, makes the request bad.
 use Rattle.std.specs.Prelude.{ℕ, suc, ℤ, List, [], ◌∷◌, Option, Some, None, option_map, option_and_then, Result, Ok, Err, codes, bytes_eq, nat_eq}
-use Rattle.std.specs.Prelude.{if◌then◌else◌}
+use Rattle.std.specs.Prelude.{if◌then◌else◌, ◌&&◌, Bool, true, false, nat_le}
 use Rattle.std.specs.Option.{ok_or}
 use Rattle.serde_json.specs.Data.{Data, null, boolean, number, string, array, object, Items, no_items, item, Members, no_members, member}
+use Rattle.serde_json.specs.Events.{items_len}
 use Rattle.serde_json.specs.Find.{get, as_number, as_str, as_i64, as_u64}
 use Rattle.wb_sets.specs.Labels.{is_label}
 use Rattle.wb_cells.specs.Cells.{Name}
@@ -12,6 +13,7 @@ use Rattle.wb_cells.specs.declared.values.index.Index.{Index}
 use Rattle.wb_cells.specs.declared.values.index.Index.TheVariants.{Point, Text}
 use Rattle.wb_cells.specs.declared.cells.kind.KeyType.{KeyType}
 use Rattle.wb_cells.specs.declared.cells.kind.KeyType.TheVariants.{Int, Text as TextKeys}
+use Rattle.wb_edit.specs.Transactions.{is_note}
 use Rattle.wb_edit.specs.declared.operation.Operation.{Operation}
 use Rattle.wb_edit.specs.declared.operation.Operation.TheVariants.{Assign, Sum, Difference, Product}
 use Rattle.wb_arrays.specs.declared.reduction.Op.{Op}
@@ -173,3 +175,42 @@ abbrev pub reduction_field : List ℕ → Data → Result Op Refusal
 reduction_field key d = do
   text ← text_field key d
   reduction_of text
+
+-- the text, where it is a note
+abbrev pub note_in : List ℕ → Result (List ℕ) Refusal
+note_in text = if is_note text then Ok text else Err BadRequest
+
+-- the note that a text is, if there is a text
+abbrev pub note_if_there : Option (List ℕ) → Result (Option (List ℕ)) Refusal
+note_if_there None = Ok None
+note_if_there (Some text) = do
+  note ← note_in text
+  Ok (Some note)
+
+-- a field that is a note, or that isn't there
+abbrev pub optional_note : List ℕ → Data → Result (Option (List ℕ)) Refusal
+optional_note key d = do
+  text ← optional_text key d
+  note_if_there text
+
+-- 1 to 4,096
+abbrev pub is_several : ℕ → Bool
+is_several n = nat_le 1 n && nat_le n 4096
+
+-- an array of so many values, whatever they are
+abbrev pub several_of : Data → Option Items
+several_of (array ds) = if is_several (items_len ds) then Some ds else None
+several_of null = None
+several_of (boolean b) = None
+several_of (number n) = None
+several_of (string text) = None
+several_of (object ms) = None
+
+-- a field that is such an array
+abbrev pub several_field : List ℕ → Data → Result Items Refusal
+several_field key d = ok_or (option_and_then several_of (get key d)) BadRequest
+
+-- whether a key is among these
+abbrev pub is_among : List (List ℕ) → List ℕ → Bool
+is_among [] key = false
+is_among (k ∷ ks) key = if bytes_eq key k then true else is_among ks key

@@ -5,6 +5,7 @@ use Rattle.std.specs.Option.{ok_or}
 use Rattle.wb_dist.specs.Maps.{LayoutMap}
 use Rattle.wb_cells.specs.Shapes.{Range}
 use Rattle.wb_cells.specs.declared.refusal.Refusal.TheVariants as edits
+use Rattle.wb_edit.specs.Trees.{plain}
 use Rattle.wb_log.specs.declared.refusal.Refusal.{Refusal}
 use Rattle.wb_log.specs.declared.refusal.Refusal.TheVariants.{BadLiteral, Refused}
 use Rattle.wb_literals.specs.Limits.Literals as limits
@@ -41,8 +42,8 @@ text_of_book text = if is_book_text text then Ok text else Err BadLiteral
 
 -- a limit is one of edits
 abbrev pub refusal_of_limit : LimitErr → Refusal
-refusal_of_limit TooLarge = Refused edits.TooLarge
-refusal_of_limit BadMapping = Refused edits.BadMapping
+refusal_of_limit TooLarge = Refused (plain edits.TooLarge)
+refusal_of_limit BadMapping = Refused (plain edits.BadMapping)
 
 abbrev pub within : {X : Type 0} → Result X LimitErr → Result X Refusal
 within (Ok x) = Ok x

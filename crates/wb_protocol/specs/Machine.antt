@@ -3,7 +3,7 @@
 use Rattle.std.specs.Prelude.{◌≡◌, ◌-◌, ◌⊎◌, ℕ, List, [], ◌∷◌, ◌++◌, true, Some, None, Result, Ok, Err, length}
 use Rattle.selective_undo.specs.History.{replay}
 use Rattle.wb_cells.specs.Cells.{written_more}
-use Rattle.wb_edit.specs.Commands.{meaning}
+use Rattle.wb_edit.specs.Edits.{meaning}
 use Rattle.wb_edit.specs.declared.edit.Edit.{Edit}
 use Rattle.wb_history.specs.Past.{Past, meant, out_of_force, into_force}
 use Rattle.wb_history.specs.Queries.{QueryReply}

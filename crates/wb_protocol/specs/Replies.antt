@@ -9,7 +9,7 @@ use Rattle.wb_cells.specs.declared.refusal.Refusal.TheVariants.{NameTaken, NoSuc
 use Rattle.wb_cells.specs.declared.refusal.Refusal.TheVariants.{OutOfParent, InUse, TooLarge, Overflow}
 use Rattle.wb_cells.specs.declared.refusal.Refusal.TheVariants.{BadMapping, NotEmpty, Empty}
 use Rattle.wb_history.specs.declared.query.Answer.{Answer}
-use Rattle.wb_history.specs.declared.query.Answer.TheVariants.{Value, Size, Locale, Piece, InForce as InForceIs}
+use Rattle.wb_history.specs.declared.query.Answer.TheVariants.{Value, Size, Locale, Piece, InForce as InForceIs, Note as NoteIs}
 use Rattle.wb_log.specs.declared.refusal.Refusal.{Refusal}
 use Rattle.wb_log.specs.declared.refusal.Refusal.TheVariants.{BadRequest, BadLiteral, Refused, NoSuchEdit}
 use Rattle.wb_log.specs.declared.refusal.Refusal.TheVariants.{NotInForce, InForce, Blocked, RefusedInPlace}
@@ -51,7 +51,7 @@ edit_name Empty = codes "empty"
 abbrev pub code_of : Refusal → List ℕ
 code_of BadRequest = codes "E01"
 code_of BadLiteral = codes "E02"
-code_of (Refused e) = edit_code e
+code_of (Refused e) = edit_code e.why
 code_of NoSuchEdit = codes "E11"
 code_of NotInForce = codes "E12"
 code_of InForce = codes "E13"
@@ -63,7 +63,7 @@ code_of StrangePass = codes "E92"
 abbrev pub name_of : Refusal → List ℕ
 name_of BadRequest = codes "bad-request"
 name_of BadLiteral = codes "bad-literal"
-name_of (Refused e) = edit_name e
+name_of (Refused e) = edit_name e.why
 name_of NoSuchEdit = codes "no-such-edit"
 name_of NotInForce = codes "not-in-force"
 name_of InForce = codes "in-force"
@@ -78,18 +78,29 @@ name_of StrangePass = codes "strange-pass"
 abbrev pub named : Refusal → Members
 named r = member (codes "error") (string (code_of r)) (member (codes "name") (string (name_of r)) no_members)
 
--- A blocked undo or redo names its blocker, and a redo that is refused in its place the code of the edit's refusal.
+-- Before them the place of a command within its transaction, from 0, where there is one.
+abbrev pub placed : Option ℕ → Members → Members
+placed None ms = ms
+placed (Some k) ms = member (codes "at") (number (unsigned k)) ms
+
+-- A blocked undo or redo names its blocker, a redo that is refused in its place the code of the edit's refusal, and the refusal of a
+-- transaction the place of the command that is refused.
 abbrev pub refusal_data : Refusal → Data
 refusal_data (Blocked by) = object (member (codes "by") (number (unsigned by)) (named (Blocked by)))
-refusal_data (RefusedInPlace e) = object (member (codes "code") (string (edit_code e)) (named (RefusedInPlace e)))
+refusal_data (RefusedInPlace e) = object (placed e.at (member (codes "code") (string (edit_code e.why)) (named (RefusedInPlace e))))
 refusal_data BadRequest = object (named BadRequest)
 refusal_data BadLiteral = object (named BadLiteral)
-refusal_data (Refused e) = object (named (Refused e))
+refusal_data (Refused e) = object (placed e.at (named (Refused e)))
 refusal_data NoSuchEdit = object (named NoSuchEdit)
 refusal_data NotInForce = object (named NotInForce)
 refusal_data InForce = object (named InForce)
 refusal_data NoMemory = object (named NoMemory)
 refusal_data StrangePass = object (named StrangePass)
+
+-- a note, if there is one
+abbrev pub note_data : Option (List ℕ) → Data
+note_data None = null
+note_data (Some n) = string n
 
 abbrev pub answer_data : Answer → Data
 answer_data (Value v) = object (member (codes "value") (number (of_integer v)) no_members)
@@ -97,6 +108,7 @@ answer_data (Size n) = object (member (codes "size") (number (unsigned n)) no_me
 answer_data (Locale l) = object (member (codes "locale") (number (unsigned l)) no_members)
 answer_data (Piece xs) = piece_data xs
 answer_data (InForceIs b) = object (member (codes "in_force") (boolean b) no_members)
+answer_data (NoteIs n) = object (member (codes "note") (note_data n) no_members)
 
 -- the numbers of edits
 abbrev pub numbers_data : List ℕ → Data
@@ -107,14 +119,15 @@ abbrev pub field_data : Option (List ℕ) → Data
 field_data None = null
 field_data (Some key) = string key
 
--- what is wrong: {"error":CODE,"field":KEY,"name":NAME,"rule":TEXT}, or null of a line that is a request
+-- what is wrong: {"error":CODE,"field":KEY,"name":NAME,"rule":TEXT}, with "at":PLACE of a command within a transaction, or null of a
+-- line that is a request
 abbrev pub wrong_data : Option Explanation → Data
 wrong_data None = null
-wrong_data (Some x) = object (
+wrong_data (Some x) = object (placed x.at (
     member (codes "error") (string (code_of (refusal_of x.fault))) (
     member (codes "field") (field_data x.field) (
     member (codes "name") (string (name_of (refusal_of x.fault))) (
-    member (codes "rule") (string (rule_text x.rule x.fault)) no_members))))
+    member (codes "rule") (string (rule_text x.rule x.fault)) no_members)))))
 
 abbrev pub reply_data : Reply → Data
 reply_data (Edited k n) = object (member (codes "edit") (number (unsigned k)) (member (codes "n") (number (unsigned n)) no_members))

@@ -1,37 +1,47 @@
 -- The request that a line is, or why it is none: the names, numbers and texts of all its fields are read first, then its
 -- literals, then their limits are judged, and then its mapping.
-use Rattle.std.specs.Prelude.{ℕ, ℤ, List, length, codes, Option, Some, None, Result, Ok, Err, bytes_eq, nat_eq, if◌then◌else◌}
+use Rattle.std.specs.Prelude.{ℕ, ℤ, List, [], ◌∷◌, ◌++◌, length, codes, Option, Some, None, Result, Ok, Err, bytes_eq, nat_eq, nat_lt, if◌then◌else◌}
+use Rattle.std.specs.Option.{ok_or}
 use Rattle.std.specs.Str.{is_utf8}
-use Rattle.serde_json.specs.Data.{Data}
+use Rattle.serde_json.specs.Data.{Data, Items, no_items, item}
 use Rattle.serde_json.specs.Read.{read}
 use Rattle.wb_cells.specs.Cells.{Name}
 use Rattle.wb_cells.specs.Shapes.{Range, indices}
 use Rattle.wb_edit.specs.declared.asked_numbers.AskedNumbers.TheVariants.{Rectangle as numbered, Indices as not_numbered}
 use Rattle.wb_edit.specs.declared.asked_rectangle.AskedRectangle.TheVariants.{Ranges, Indices}
-use Rattle.wb_edit.specs.declared.edit.Edit.TheVariants.{Domain as NewDomain, Remap, Reshape, Sparse}
-use Rattle.wb_edit.specs.declared.edit.Edit.TheVariants.{Assoc, DropDomain, Add, Remove, Array, Set}
-use Rattle.wb_edit.specs.declared.edit.Edit.TheVariants.{Irv, Copy, Fill, Put, FillAll, DropArray, All, Load}
-use Rattle.wb_history.specs.declared.query.Query.TheVariants.{Get, Size, Where, Piece, Reduce, State}
+use Rattle.wb_edit.specs.declared.command.Command.{Command}
+use Rattle.wb_edit.specs.declared.command.Command.TheVariants.{Domain as NewDomain, Remap, Reshape, Sparse}
+use Rattle.wb_edit.specs.declared.command.Command.TheVariants.{Assoc, DropDomain, Add, Remove, Array, Set}
+use Rattle.wb_edit.specs.declared.command.Command.TheVariants.{Irv, Copy, Fill, Put, FillAll, DropArray, All}
+use Rattle.wb_edit.specs.declared.edit.Edit.TheVariants.{Command as OneCommand, Transaction, Load}
+use Rattle.wb_edit.specs.Edits.{command_in}
+use Rattle.wb_history.specs.declared.query.Query.TheVariants.{Get, Size, Where, Piece, Reduce, State, Note}
 use Rattle.wb_log.specs.declared.refusal.Refusal.{Refusal}
 use Rattle.wb_log.specs.declared.refusal.Refusal.TheVariants.{BadRequest}
 use Rattle.wb_literals.specs.Domain.{Domain, rectangle, set}
 use Rattle.wb_literals.specs.declared.mapping.MappingLiteral.{MappingLiteral}
 use Rattle.wb_protocol.specs.Fields.{◌>>=◌, field_count, has_fields, has_fields_and, text_field, optional_text, i64_field, u64_field, name_field}
-use Rattle.wb_protocol.specs.Fields.{index_field, integers_field, key_type_field, operation_field, reduction_field}
+use Rattle.wb_protocol.specs.Fields.{index_field, integers_field, key_type_field, operation_field, reduction_field, optional_note, several_field, is_among}
+use Rattle.wb_protocol.specs.Encoding.Table.{command_ops}
 use Rattle.wb_protocol.specs.Literals.{literal_domain, literal_mapping, optional_mapping, text_of_book, domain_within, mapping_within}
 use Rattle.wb_protocol.specs.Sources.{source_of}
+use Rattle.wb_protocol.specs.Wire.Faults.{code, fault_told}
 use Rattle.wb_protocol.specs.declared.requests.request.Request.{Request}
 use Rattle.wb_protocol.specs.declared.requests.request.Request.TheVariants.{Change, Undo, Redo, Cascade, Dependents, Ask, Print, History, Edits, Explain}
+
+-- the request to make a command
+abbrev pub of_command : Command → Request
+of_command c = Change (OneCommand c)
 
 -- a new domain of what a literal spells, with a mapping: a set is no rectangle, which is for the workbook to refuse
 abbrev pub domain_with : Name → Domain → MappingLiteral → Result Request Refusal
 domain_with name (rectangle r) spelled = do
   ranges ← domain_within r
   mapping ← mapping_within spelled
-  Ok (Change (NewDomain name (Ranges ranges) mapping))
+  Ok (of_command (NewDomain name (Ranges ranges) mapping))
 domain_with name (set items) spelled = do
   mapping ← mapping_within spelled
-  Ok (Change (NewDomain name Indices mapping))
+  Ok (of_command (NewDomain name Indices mapping))
 
 -- a new domain by its literal and that of its mapping, where there is one
 abbrev pub domain_by : Name → List ℕ → Option (List ℕ) → Result Request Refusal
@@ -62,7 +72,7 @@ remap_of d = do
   text ← text_field (codes "map") d
   spelled ← literal_mapping text
   mapping ← mapping_within spelled
-  Ok (Change (Remap name mapping))
+  Ok (of_command (Remap name mapping))
 
 -- {"op":"sparse","d":NAME,"of":NAME}
 abbrev pub sparse_of : Data → Result Request Refusal
@@ -70,7 +80,7 @@ sparse_of d = do
   unit ← has_fields 3 d
   name ← name_field (codes "d") d
   parent ← name_field (codes "of") d
-  Ok (Change (Sparse name parent))
+  Ok (of_command (Sparse name parent))
 
 -- {"op":"assoc","d":NAME,"of":TYPE}
 abbrev pub assoc_of : Data → Result Request Refusal
@@ -78,14 +88,14 @@ assoc_of d = do
   unit ← has_fields 3 d
   name ← name_field (codes "d") d
   type ← key_type_field (codes "of") d
-  Ok (Change (Assoc name type))
+  Ok (of_command (Assoc name type))
 
 -- {"op":"drop_domain","d":NAME}
 abbrev pub drop_domain_of : Data → Result Request Refusal
 drop_domain_of d = do
   unit ← has_fields 2 d
   name ← name_field (codes "d") d
-  Ok (Change (DropDomain name))
+  Ok (of_command (DropDomain name))
 
 -- {"op":"add","d":NAME,"i":INDEX}
 abbrev pub add_of : Data → Result Request Refusal
@@ -93,7 +103,7 @@ add_of d = do
   unit ← has_fields 3 d
   name ← name_field (codes "d") d
   index ← index_field (codes "i") d
-  Ok (Change (Add name index))
+  Ok (of_command (Add name index))
 
 -- {"op":"remove","d":NAME,"i":INDEX}
 abbrev pub remove_of : Data → Result Request Refusal
@@ -101,7 +111,7 @@ remove_of d = do
   unit ← has_fields 3 d
   name ← name_field (codes "d") d
   index ← index_field (codes "i") d
-  Ok (Change (Remove name index))
+  Ok (of_command (Remove name index))
 
 -- {"op":"reshape","d":NAME}, and one field more, which says where the new value comes from
 abbrev pub reshape_of : Data → Result Request Refusal
@@ -109,7 +119,7 @@ reshape_of d = do
   unit ← has_fields 3 d
   name ← name_field (codes "d") d
   source ← source_of d
-  Ok (Change (Reshape name source))
+  Ok (of_command (Reshape name source))
 
 -- {"op":"array","a":NAME,"d":NAME}
 abbrev pub array_of : Data → Result Request Refusal
@@ -117,14 +127,14 @@ array_of d = do
   unit ← has_fields 3 d
   name ← name_field (codes "a") d
   domain ← name_field (codes "d") d
-  Ok (Change (Array name domain))
+  Ok (of_command (Array name domain))
 
 -- {"op":"drop_array","a":NAME}
 abbrev pub drop_array_of : Data → Result Request Refusal
 drop_array_of d = do
   unit ← has_fields 2 d
   name ← name_field (codes "a") d
-  Ok (Change (DropArray name))
+  Ok (of_command (DropArray name))
 
 -- {"op":"irv","a":NAME,"v":INTEGER}
 abbrev pub irv_of : Data → Result Request Refusal
@@ -132,7 +142,7 @@ irv_of d = do
   unit ← has_fields 3 d
   name ← name_field (codes "a") d
   value ← i64_field (codes "v") d
-  Ok (Change (Irv name value))
+  Ok (of_command (Irv name value))
 
 -- {"op":"all","a":NAME,"how":OPERATION,"b":NAME}
 abbrev pub all_of : Data → Result Request Refusal
@@ -141,7 +151,7 @@ all_of d = do
   name ← name_field (codes "a") d
   how ← operation_field (codes "how") d
   other ← name_field (codes "b") d
-  Ok (Change (All name how other))
+  Ok (of_command (All name how other))
 
 -- {"op":"set","a":NAME,"i":INDEX,"v":INTEGER}
 abbrev pub set_of : Data → Result Request Refusal
@@ -150,14 +160,14 @@ set_of d = do
   name ← name_field (codes "a") d
   index ← index_field (codes "i") d
   value ← i64_field (codes "v") d
-  Ok (Change (Set name index value))
+  Ok (of_command (Set name index value))
 
 -- a number at each index of what a literal spells: a set is no rectangle, which is for the workbook to refuse
 abbrev pub fill_over : Name → Domain → ℤ → Result Request Refusal
 fill_over name (rectangle r) value = do
   ranges ← domain_within r
-  Ok (Change (Fill name (Ranges ranges) value))
-fill_over name (set items) value = Ok (Change (Fill name Indices value))
+  Ok (of_command (Fill name (Ranges ranges) value))
+fill_over name (set items) value = Ok (of_command (Fill name Indices value))
 
 -- {"op":"fill","a":NAME,"on":LITERAL,"v":INTEGER}
 abbrev pub fill_of : Data → Result Request Refusal
@@ -171,14 +181,14 @@ fill_of d = do
 
 -- a number for each index of ranges, in their order: as many as there are indices
 abbrev pub put_on : Name → List Range → List ℤ → Result Request Refusal
-put_on name on vs = if nat_eq (length vs) (length (indices on)) then Ok (Change (Put name (numbered (on, vs)))) else Err BadRequest
+put_on name on vs = if nat_eq (length vs) (length (indices on)) then Ok (of_command (Put name (numbered (on, vs)))) else Err BadRequest
 
 -- numbers at the indices of what a literal spells: a set is no rectangle, which is for the workbook to refuse
 abbrev pub put_over : Name → Domain → List ℤ → Result Request Refusal
 put_over name (rectangle r) vs = do
   ranges ← domain_within r
   put_on name ranges vs
-put_over name (set items) vs = Ok (Change (Put name not_numbered))
+put_over name (set items) vs = Ok (of_command (Put name not_numbered))
 
 -- {"op":"put","a":NAME,"on":LITERAL,"vs":INTEGERS}
 abbrev pub put_of : Data → Result Request Refusal
@@ -196,7 +206,7 @@ fill_all_of d = do
   unit ← has_fields 3 d
   name ← name_field (codes "a") d
   value ← i64_field (codes "v") d
-  Ok (Change (FillAll name value))
+  Ok (of_command (FillAll name value))
 
 -- {"op":"copy","a":NAME,"i":INDEX,"b":NAME,"j":INDEX,"c":INTEGER}
 abbrev pub copy_of : Data → Result Request Refusal
@@ -207,7 +217,7 @@ copy_of d = do
   source ← name_field (codes "b") d
   place ← index_field (codes "j") d
   more ← i64_field (codes "c") d
-  Ok (Change (Copy name index source place more))
+  Ok (of_command (Copy name index source place more))
 
 -- {"op":"load","text":TEXT}
 abbrev pub load_of : Data → Result Request Refusal
@@ -295,6 +305,13 @@ state_of d = do
   number ← u64_field (codes "k") d
   Ok (Ask (State number))
 
+-- {"op":"note","k":NUMBER}
+abbrev pub note_of : Data → Result Request Refusal
+note_of d = do
+  unit ← has_fields 2 d
+  number ← u64_field (codes "k") d
+  Ok (Ask (Note number))
+
 -- {"op":"print"}
 abbrev pub print_of : Data → Result Request Refusal
 print_of d = do
@@ -338,6 +355,7 @@ by_history_op op d =
     if bytes_eq op (codes "piece") then piece_of d else
     if bytes_eq op (codes "reduce") then reduce_of d else
     if bytes_eq op (codes "state") then state_of d else
+    if bytes_eq op (codes "note") then note_of d else
     if bytes_eq op (codes "print") then print_of d else
     if bytes_eq op (codes "history") then history_of d else
     if bytes_eq op (codes "edits") then edits_of d else
@@ -357,9 +375,9 @@ by_array_op op d =
     if bytes_eq op (codes "all") then all_of d else
     by_history_op op d
 
--- by its op, which is one of these, or that of a change to a domain, of a workbook that is loaded, or of a line that is explained
-abbrev pub by_op : List ℕ → Data → Result Request Refusal
-by_op op d =
+-- the same, or a change to a domain, a workbook that is loaded, or a line that is explained
+abbrev pub by_single_op : List ℕ → Data → Result Request Refusal
+by_single_op op d =
     if bytes_eq op (codes "domain") then domain_of d else
     if bytes_eq op (codes "remap") then remap_of d else
     if bytes_eq op (codes "sparse") then sparse_of d else
@@ -371,6 +389,56 @@ by_op op d =
     if bytes_eq op (codes "load") then load_of d else
     if bytes_eq op (codes "explain") then explain_of d else
     by_array_op op d
+
+-- ---- several commands as one
+
+-- the command that a request makes
+abbrev pub as_command : Request → Result Command Refusal
+as_command (Change e) = ok_or (command_in e) BadRequest
+as_command _ = Err BadRequest
+
+-- the command that an object asks for by its op
+abbrev pub command_by : List ℕ → Data → Result Command Refusal
+command_by op d = if is_among command_ops op then by_single_op op d >>= as_command else Err BadRequest
+
+abbrev pub command_of : Data → Result Command Refusal
+command_of d = do
+  op ← text_field (codes "op") d
+  command_by op d
+
+-- the one of two refusals with the least code, or the first
+abbrev pub lesser_refusal : Refusal → Refusal → Refusal
+lesser_refusal one more = if nat_lt (code (fault_told more)) (code (fault_told one)) then more else one
+
+-- commands and one more, or the refusal with the least code
+abbrev pub one_more : Result (List Command) Refusal → Result Command Refusal → Result (List Command) Refusal
+one_more (Ok cs) (Ok c) = Ok (cs ++ c ∷ [])
+one_more (Ok cs) (Err why) = Err why
+one_more (Err one) (Ok c) = Err one
+one_more (Err one) (Err more) = Err (lesser_refusal one more)
+
+-- commands, or why they are refused
+abbrev pub so_far : Option Refusal → List Command → Result (List Command) Refusal
+so_far None cs = Ok cs
+so_far (Some why) cs = Err why
+
+-- the commands that values ask for, behind what is read before them
+abbrev pub commands_after : Result (List Command) Refusal → Items → Result (List Command) Refusal
+commands_after before no_items = before
+commands_after before (item d ds) = commands_after (one_more before (command_of d)) ds
+
+-- {"op":"transaction","edits":COMMANDS}, or with "note":NOTE too
+abbrev pub transaction_of : Data → Result Request Refusal
+transaction_of d = do
+  note ← optional_note (codes "note") d
+  unit ← has_fields_and 2 note d
+  listed ← several_field (codes "edits") d
+  commands ← commands_after (Ok []) listed
+  Ok (Change (Transaction (commands, note)))
+
+-- by its op
+abbrev pub by_op : List ℕ → Data → Result Request Refusal
+by_op op d = if bytes_eq op (codes "transaction") then transaction_of d else by_single_op op d
 
 -- the request that a JSON value is
 abbrev pub request_of : Data → Result Request Refusal

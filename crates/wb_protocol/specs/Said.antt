@@ -2,9 +2,9 @@
 use Rattle.std.specs.Prelude.{◌≡◌, ◌≢◌, Option, Some, None, Result, Ok, Err}
 use Rattle.wb_cells.specs.declared.refusal.Refusal as edits
 use Rattle.wb_log.specs.declared.refusal.Refusal.{Refusal}
-use Rattle.wb_log.specs.declared.refusal.Refusal.TheVariants.{NoMemory, Refused}
+use Rattle.wb_log.specs.declared.refusal.Refusal.TheVariants.{NoMemory}
 use Rattle.wb_protocol.specs.Explained as told
-use Rattle.wb_protocol.specs.Explained.{fault_told}
+use Rattle.wb_protocol.specs.Wire.Faults.{fault_told, edit_fault_told}
 use Rattle.wb_protocol.specs.Wire.Faults as faults
 use Rattle.wb_protocol.specs.declared.explaining.fault.Fault.{Fault}
 use Rattle.wb_protocol.specs.declared.explaining.fault.Fault.TheVariants as code_fault
@@ -30,6 +30,8 @@ said_kind code_kind.KeyType = faults.plain faults.key_type
 said_kind code_kind.Operation = faults.plain faults.operation
 said_kind code_kind.Reduction = faults.plain faults.reduction
 said_kind code_kind.AnyText = faults.plain faults.any_text
+said_kind code_kind.Note = faults.plain faults.note
+said_kind code_kind.Several = faults.plain faults.several
 said_kind code_kind.Domain = faults.domain
 said_kind code_kind.Mapping = faults.mapping
 said_kind code_kind.Source = faults.source
@@ -44,10 +46,11 @@ said_rule code_rule.HasAll = told.has_all
 said_rule code_rule.HasOneOf = told.has_one_of
 said_rule (code_rule.Spells kind) = told.spells (said_kind kind)
 said_rule code_rule.AreCounted = told.are_counted
+said_rule code_rule.NamesCommand = told.names_command
 
 -- the fault that the refusal of an edit tells of
 abbrev pub said_edit_fault : edits.Refusal → faults.Fault
-said_edit_fault why = fault_told (Refused why)
+said_edit_fault why = edit_fault_told why
 
 -- a value is judged as it is wanted, unless memory ran out
 abbrev pub IsJudged : {X : Type 0} → Option faults.Fault → Result X Refusal → Type 0

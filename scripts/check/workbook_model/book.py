@@ -322,10 +322,24 @@ def load(look, r):
     return read_book(r["text"]).cells()
 
 
+def transaction(look, r):
+    """Each change in the book that those before it leave; the first that is refused refuses all, with its place."""
+    book, made = look.book.copy(), {}
+    for at, request in enumerate(r["edits"]):
+        try:
+            reads, cells = plan(book, request)
+        except Refused as why:
+            raise Refused(why.code, frozenset(look.reads | why.reads), {"at": at}) from None
+        look.reads |= reads
+        book.set_all(cells)
+        made.update(cells)
+    return made
+
+
 CHANGES = {
     "domain": domain, "remap": remap, "sparse": sparse, "assoc": assoc, "drop_domain": drop_domain, "reshape": reshape,
     "add": add, "remove": remove, "array": array, "drop_array": drop_array, "set": set_one, "fill": fill, "put": put,
-    "fill_all": fill_all, "irv": irv, "copy": copy, "all": all_of, "load": load,
+    "fill_all": fill_all, "irv": irv, "copy": copy, "all": all_of, "load": load, "transaction": transaction,
 }
 
 

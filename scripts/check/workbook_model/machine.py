@@ -134,7 +134,7 @@ class Machine:
             if other.touches_what(reads) or other.meets(cells):
                 raise Refused("E14", more={"by": j})
         if why is not None:
-            raise Refused("E16", more={"code": why.code})
+            raise Refused("E16", more={"code": why.code, **why.more})
         edit.reads, edit.before = reads, self.book.set_all(cells)
         return {"n": self.written(cells), "redone": k}
 
@@ -183,6 +183,10 @@ def state(machine, r):
     return {"in_force": machine.numbered(r["k"]).before is not None}
 
 
+def note(machine, r):
+    return {"note": machine.numbered(r["k"]).request.get("note")}
+
+
 def dependents(machine, r):
     return {"dependents": machine.dependents(r["k"])}
 
@@ -203,14 +207,21 @@ def print_text(machine, r):
 
 def line_of(request):
     """The canonical line of an edit's request: each field, keys ascending, literals in their one spelling."""
+    return text_of(spelled_members(request))
+
+
+def spelled_members(request):
+    """The fields of a change as they stand in JSON."""
     members = {"map": None, **request} if request["op"] == "domain" else request
-    return text_of({key: spelled(key, value) for key, value in members.items()})
+    return {key: spelled(key, value) for key, value in members.items()}
 
 
 def spelled(key, value):
     """A field as it stands in JSON."""
     if key == "map":
         return lit.mapping_text(value)
+    if key == "edits":
+        return [spelled_members(request) for request in value]
     if isinstance(value, tuple) and value[:1] == ("rectangle",):
         return lit.rectangle_text(value[1])
     if isinstance(value, tuple) and value[:1] == ("set",):
@@ -236,11 +247,11 @@ def explain(machine, r):
     wrong = explained(r["line"])
     if wrong is None:
         return {"wrong": None}
-    code, field, rule = wrong
-    return {"wrong": {"error": code, "field": field, "name": NAMES[code], "rule": rule}}
+    code, field, rule, *place = wrong
+    return {"wrong": {"error": code, "field": field, "name": NAMES[code], "rule": rule, **({"at": place[0]} if place else {})}}
 
 
 QUESTION = {
     "history": history, "edits": edits, "get": get, "where": where, "size": size, "piece": piece, "state": state, "print": print_text,
-    "dependents": dependents, "reduce": reduce, "explain": explain,
+    "dependents": dependents, "reduce": reduce, "explain": explain, "note": note,
 }

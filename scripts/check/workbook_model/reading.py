@@ -8,6 +8,7 @@ from .texts import read_book
 
 LONGEST_LINE = 65_536
 NAME = re.compile(r"[A-Za-z][A-Za-z0-9_]{0,31}")
+UNPLAIN = re.compile(r'["\\\x00-\x1f\x7f\ud800-\udfff]')
 OFFSETS, LITERALS = ("translate", "expand"), ("to", "slice", "or", "and", "minus", "xor")
 
 
@@ -124,6 +125,20 @@ def line_text(value):
     return text(str)(value)
 
 
+def note_text(value):
+    """The note of a transaction."""
+    if not isinstance(value, str) or len(value.encode("utf-8", "surrogatepass")) > 256 or UNPLAIN.search(value):
+        raise Refused("E01")
+    return value
+
+
+def several(value):
+    """1 to 4,096 values, whatever they are."""
+    if not isinstance(value, list) or not 1 <= len(value) <= 4096:
+        raise Refused("E01")
+    return value
+
+
 domain, mapping = text(domain_literal), text(mapping_literal)
 WITHIN = "at most 65536 indices, bounds within 10^18"
 SPELLED = "a rectangle or a set, as {1..9} or {1, 5}"
@@ -135,6 +150,8 @@ RULES.update({
     integers: {"E01": "an array of integers from -2^63 to 2^63-1"},
     offset: {"E01": "an integer, or an array of 2 or 3 of them"},
     line_text: {"E01": "a text"},
+    note_text: {"E01": "a text of at most 256 bytes without quotes, backslashes and control characters"},
+    several: {"E01": "an array of 1 to 4096 edits"},
     domain: {"E01": "a text", "E02": SPELLED, "E09": WITHIN},
     mapping: {
         "E01": "a text", "E02": "none, blockDist(..), cyclicDist(..) or blockCycDist(..)",
@@ -178,8 +195,15 @@ FIELDS = {
     "dependents": {"k": count},
     "reduce": {"a": name, "how": word("+", "min", "max")},
     "explain": {"line": line_text},
+    "note": {"k": count},
+    "transaction": {"edits": several, "?note": note_text},
 }
-QUESTIONS = {"history", "edits", "get", "where", "size", "piece", "state", "print", "dependents", "reduce", "explain"}
+# The ops of which a transaction may have some.
+COMMANDS = {
+    "domain", "sparse", "assoc", "drop_domain", "reshape", "add", "remove", "remap", "array", "drop_array", "set", "fill", "put", "fill_all",
+    "irv", "copy", "all",
+}
+QUESTIONS = {"note", "history", "edits", "get", "where", "size", "piece", "state", "print", "dependents", "reduce", "explain"}
 SOURCES = {**{how: offset for how in OFFSETS}, **{how: source for how in LITERALS}}
 
 
@@ -213,6 +237,28 @@ def request_of(members):
         raise Refused(min(faults))
     if found["op"] == "put" and found["on"][0] == "rectangle" and len(found["vs"]) != size_of(found["on"][1]):
         raise Refused("E01")
+    if found["op"] == "transaction":
+        found["edits"] = commands_of(found["edits"])
+    return found
+
+
+def command_of(members):
+    """The request of a change within a transaction."""
+    if not isinstance(members, dict) or not isinstance(members.get("op"), str) or members["op"] not in COMMANDS:
+        raise Refused("E01")
+    return request_of(members)
+
+
+def commands_of(values):
+    """The requests of changes; of all their faults the one with the least code is told."""
+    found, faults = [], []
+    for value in values:
+        try:
+            found.append(command_of(value))
+        except Refused as why:
+            faults.append(why.code)
+    if faults:
+        raise Refused(min(faults))
     return found
 
 
@@ -248,6 +294,25 @@ def explained(line):
     op = members.get("op")
     if not isinstance(op, str) or op != "reshape" and op not in FIELDS:
         return "E01", "op", "an op"
+    wrong = explained_object(op, members)
+    if wrong is None and op == "transaction":
+        told = [(at, explained_command(value)) for at, value in enumerate(members["edits"])]
+        return min(((*fault, at) for at, fault in told if fault is not None), key=lambda fault: fault[0], default=None)
+    return wrong
+
+
+def explained_command(members):
+    """What is wrong with a value within a transaction."""
+    if not isinstance(members, dict):
+        return "E01", None, "a JSON object"
+    op = members.get("op")
+    if not isinstance(op, str) or op not in COMMANDS:
+        return "E01", "op", "an op that changes a domain or an array"
+    return explained_object(op, members)
+
+
+def explained_object(op, members):
+    """What is wrong with an object of an op, apart from what is within it."""
     forms = forms_of(op)
     form = next((form for form in forms if {"op", *form} == set(members)), None)
     if form is None:

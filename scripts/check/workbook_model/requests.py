@@ -3,7 +3,7 @@
 import json
 
 from .literals import domain_literal, size_of
-from .reading import FIELDS
+from .reading import COMMANDS, FIELDS
 
 TEXTS = ["", "a", "b", "z", "a b", "é", "0", "x" * 64]
 NAMES = {"D": 1, "M": 2, "C": 3, "S": 1, "R": 2, "N": 1, "T": "text"}
@@ -218,13 +218,22 @@ class Requests:
         """The lines of edits from a number on: mostly of a late one, since the whole text is long."""
         return {"from": self.number()}
 
-    make_cascade = make_dependents = make_redo
+    make_cascade = make_dependents = make_note = make_redo
 
     def make_reduce(self):
         return {"a": self.array_name(), "how": self.pick(["+", "min", "max"])}
 
     def make_load(self):
         return {"text": self.pick(BOOKS)}
+
+    def make_transaction(self):
+        """A few changes, seldom something else among them, and often a note."""
+        ops = [op for op in self.ops if op in COMMANDS]
+        several = [{"op": op, **getattr(self, "make_" + op)()}
+                   for op in self.chance.choices(ops, [SHARES[op] for op in ops], k=self.chance.randint(1, 5))]
+        if self.rarely():
+            several.insert(self.chance.randint(0, len(several)), self.pick([{}, 1, {"op": "undo"}, {"op": "load", "text": ""}]))
+        return {"edits": several, **({"note": self.pick(TEXTS)} if self.rarely(0.4) else {})}
 
     def make_explain(self):
         """What is wrong with a line: a request by chance, of which often a member is missing or another one."""
@@ -242,5 +251,5 @@ SHARES = {
     "domain": 4, "sparse": 2, "assoc": 2, "drop_domain": 2, "reshape": 8, "add": 8, "remove": 4, "remap": 3, "array": 4,
     "drop_array": 2, "set": 16, "fill": 5, "put": 5, "fill_all": 2, "irv": 2, "copy": 8, "all": 4, "undo": 22, "redo": 18, "get": 4,
     "where": 2, "size": 2, "piece": 2, "state": 3, "print": 1, "history": 2, "edits": 2, "cascade": 2, "dependents": 4, "reduce": 4, "load": 1,
-    "explain": 2,
+    "explain": 2, "transaction": 8, "note": 1,
 }

@@ -25,7 +25,7 @@ use Rattle.wb_edit.specs.Commands.{domain, new_domain_changes}
 use Rattle.wb_edit.specs.Valid.{IsAsked}
 use Rattle.wb_edit.specs.Looks.{is_free}
 use Rattle.wb_edit.specs.Layouts.{for_rank, mapped}
-use Rattle.wb_edit.specs.Trees.{Tree, judged}
+use Rattle.wb_edit.specs.Trees.{Tree, judged, plain}
 use Rattle.wb_edit.proofs.Layouts.{mapping_for}
 use Rattle.wb_reshape.proofs.Gets.{after, after-column, after-beside, get-apply}
 use Rattle.wb_reshape.proofs.States.{in_column, domain_of_array, of_kind, no_inside, no_member, IsMember-same, index_cell_same, indices_same, was_free, apart}
@@ -118,7 +118,7 @@ domain_added s t d rs m named rectangle fits h free k =
 pub domain_kept : (s : Cells) (d : Name) (asked : AskedRectangle) (m : LayoutMap) → (is_name d ≡ true) × IsAsked asked × IsLayout m → IsWellFormed s →
     Keeps (domain d asked m) s
 domain_kept s d Indices m valid h =
-    let last : Unit {0} → Tree = λ unit. refuse WrongKind in
+    let last : Unit {0} → Tree = λ unit. refuse (plain WrongKind) in
     keeps_read s (Object d) (λ v. judged (is_free v) last) (λ v is. keeps_judged s (is_free v) last h (λ unit found. h))
 domain_kept s d (Asked rs) m valid h =
     keeps_read s (Object d) (λ v. judged (is_free v) (λ x. mapped (length rs) m (λ y. write (new_domain_changes d rs m)))) (λ v is.

@@ -18,7 +18,7 @@ use Rattle.wb_edit.specs.declared.asked_rectangle.AskedRectangle.{AskedRectangle
 use Rattle.wb_edit.specs.declared.asked_rectangle.AskedRectangle.TheVariants.{Ranges, Indices}
 use Rattle.wb_cells.specs.declared.refusal.Refusal.TheVariants.{WrongKind}
 use Rattle.wb_edit.specs.Commands.{fill}
-use Rattle.wb_edit.specs.Trees.{Tree, judged}
+use Rattle.wb_edit.specs.Trees.{Tree, judged, plain}
 use Rattle.wb_edit.specs.Rectangles.{of_rank, over_rectangle, there_if, all_there, all_elements, read_all}
 use Rattle.wb_edit.specs.Looks.{array_kind}
 use Rattle.wb_edit.specs.Writes.{put_all}
@@ -47,7 +47,7 @@ at_all s a v (i ∷ is) within there =
 
 pub fill_kept : (s : Cells) (a : Name) (asked : AskedRectangle) (v : ℤ) → FitsSigned w64 v → IsWellFormed s → Keeps (fill a asked v) s
 fill_kept s a Indices v within h =
-    let last : Name × Kind → Tree = λ over. refuse WrongKind in
+    let last : Name × Kind → Tree = λ over. refuse (plain WrongKind) in
     keeps_read s (Object a) (λ o. judged (array_kind o) last) (λ o is. keeps_judged s (array_kind o) last h (λ over found. h))
 fill_kept s a (Ranges on) v within h =
     let is : List Index = indices on in

@@ -1,12 +1,11 @@
 -- A number for each of many indices keeps a workbook well formed.
-use Rattle.std.proofs.Common.{◌≡◌, ℕ, suc, Bool, true, ◌&&◌, List, [], ◌∷◌, map, length, Option, is_some, ℤ, FitsSigned, arith}
+use Rattle.std.proofs.Common.{◌≡◌, suc, true, List, [], ◌∷◌, map, length, is_some, ℤ, FitsSigned, arith}
 use Rattle.std.specs.Int.{w64}
 use Rattle.std.specs.FinMap.{get}
 use Rattle.std.specs.List.{All, list_all, zip}
 use Rattle.selective_undo.specs.Edit.{refuse, write}
 use Rattle.wb_cells.specs.declared.cells.cell.Cell.TheVariants.{Object, Element}
 use Rattle.wb_cells.specs.declared.cells.kind.Kind.{Kind}
-use Rattle.wb_cells.specs.declared.cells.value.Value.{Value}
 use Rattle.wb_cells.specs.declared.values.index.Index.{Index}
 use Rattle.wb_cells.specs.Cells.{Name, Cells}
 use Rattle.wb_cells.specs.Shapes.{Range, indices}
@@ -17,7 +16,7 @@ use Rattle.wb_cells.specs.declared.refusal.Refusal.TheVariants.{WrongKind}
 use Rattle.wb_edit.specs.Commands.{number_cells, put_numbers, put}
 use Rattle.wb_edit.specs.Looks.{array_kind}
 use Rattle.wb_edit.specs.Rectangles.{of_rank, all_there, all_elements}
-use Rattle.wb_edit.specs.Trees.{Tree, judged}
+use Rattle.wb_edit.specs.Trees.{Tree, judged, plain}
 use Rattle.wb_edit.specs.ValidNumbers.{AreAskedNumbers}
 use Rattle.wb_edit.proofs.Kept.Fill.{keeps_all, found_there, first_and}
 use Rattle.wb_edit.proofs.Kept.NewElements.{AreNumbers, numbers_kept}
@@ -43,7 +42,7 @@ numbers_put s a kind on vs within h =
 
 pub put_kept : (s : Cells) (a : Name) (asked : AskedNumbers) → AreAskedNumbers asked → IsWellFormed s → Keeps (put a asked) s
 put_kept s a Indices valid h =
-    let last : Name × Kind → Tree = λ over. refuse WrongKind in
+    let last : Name × Kind → Tree = λ over. refuse (plain WrongKind) in
     keeps_read s (Object a) (λ o. judged (array_kind o) last) (λ o is. keeps_judged s (array_kind o) last h (λ over found. h))
 put_kept s a (Rectangle r) valid h =
     let last : Name × Kind → Tree = λ array. put_numbers a array.1 r.0 r.1 in

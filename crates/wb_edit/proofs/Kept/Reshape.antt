@@ -11,7 +11,7 @@ use Rattle.wb_reshape.specs.declared.operand.Operand.TheVariants.{Rectangle, Ite
 use Rattle.wb_reshape.specs.declared.new_indices.NewIndices.{NewIndices}
 use Rattle.wb_reshape.specs.declared.new_indices.NewIndices.TheVariants.{To, Slice, Displace, Combine}
 use Rattle.wb_cells.specs.declared.refusal.Refusal.TheVariants.{WrongKind}
-use Rattle.wb_edit.specs.Trees.{Tree, judged}
+use Rattle.wb_edit.specs.Trees.{Tree, judged, plain}
 use Rattle.wb_edit.specs.Commands.Reshape.{no_source, reshape_kind, reshape}
 use Rattle.wb_edit.specs.Looks.{domain_kind}
 use Rattle.wb_edit.specs.ValidSources.{AreNewIndices}
@@ -23,7 +23,7 @@ no_source_kept : (s : Cells) (given : Operand) → IsWellFormed s → Keeps (no_
 no_source_kept s (Rectangle rs) h = h
 no_source_kept s (Items is) h = h
 no_source_kept s (Named e) h =
-    let last : DomainKind → Tree = λ kind. refuse WrongKind in
+    let last : DomainKind → Tree = λ kind. refuse (plain WrongKind) in
     keeps_read s (Object e) (λ v. judged (domain_kind v) last) (λ v is. keeps_judged s (domain_kind v) last h (λ kind found. h))
 
 kind_kept : (s : Cells) (d : Name) (kind : DomainKind) (source : NewIndices) → AreNewIndices source → IsWellFormed s → domain_at s d ≡ Some kind →

@@ -38,7 +38,7 @@ use Rattle.wb_reshape.proofs.Without.{IsListedOnce-without}
 use Rattle.wb_cells.specs.declared.refusal.Refusal.{Refusal}
 use Rattle.wb_cells.specs.declared.refusal.Refusal.TheVariants.{WrongKind}
 use Rattle.wb_edit.specs.Changed.{AreApart}
-use Rattle.wb_edit.specs.Trees.{Tree, judged}
+use Rattle.wb_edit.specs.Trees.{Tree, judged, plain}
 use Rattle.wb_edit.specs.Rectangles.{of_rank}
 use Rattle.wb_edit.specs.Reshaping.{none_present, shape, member_cells, reshaped_cells, reshaped}
 use Rattle.wb_edit.specs.Resizing.{fills, zeros, resized}
@@ -191,7 +191,7 @@ module _ (s : Cells) (d : Name) (rank : ℕ) (h : IsWellFormed s) where
 no_source_once : (s : Cells) (given : Operand) → Once (no_source given) s
 no_source_once s (Rectangle rs) = tt
 no_source_once s (Items is) = tt
-no_source_once s (Named e) = once_test s (Object e) domain_kind (λ kind. refuse WrongKind) (λ kind found. tt)
+no_source_once s (Named e) = once_test s (Object e) domain_kind (λ kind. refuse (plain WrongKind)) (λ kind found. tt)
 
 kind_once : (s : Cells) (d : Name) (kind : DomainKind) (source : NewIndices) → AreNewIndices source → AreNewIndicesOnce source → IsWellFormed s →
     Once (reshape_kind d kind source) s

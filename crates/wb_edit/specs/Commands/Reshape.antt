@@ -16,7 +16,7 @@ use Rattle.wb_reshape.specs.declared.new_indices.NewIndices.TheVariants.{To, Sli
 use Rattle.wb_reshape.specs.Resized.{without}
 use Rattle.wb_reshape.specs.Sources.{combined}
 use Rattle.wb_cells.specs.declared.refusal.Refusal.TheVariants.{WrongKind}
-use Rattle.wb_edit.specs.Trees.{Tree, ◌>>=◌, judged}
+use Rattle.wb_edit.specs.Trees.{Tree, ◌>>=◌, judged, plain}
 use Rattle.wb_edit.specs.Reshaping.{shape, reshaped}
 use Rattle.wb_edit.specs.Resizing.{resized}
 use Rattle.wb_edit.specs.Looks.{domain_named, members}
@@ -24,11 +24,11 @@ use Rattle.wb_edit.specs.Sources.{same_rank, slice_of, displacement_of, gives_re
 
 -- no such source for the domain; a name that is given is tested first
 abbrev pub no_source : Operand → Tree
-no_source (Rectangle rs) = refuse WrongKind
-no_source (Items is) = refuse WrongKind
+no_source (Rectangle rs) = refuse (plain WrongKind)
+no_source (Items is) = refuse (plain WrongKind)
 no_source (Named e) = do
   kind ← domain_named e
-  refuse WrongKind
+  refuse (plain WrongKind)
 
 -- ---- rectangular domains
 
@@ -88,13 +88,13 @@ combine_set d kind how given = do
 abbrev pub reshape_sparse : Name → DomainKind → NewIndices → Tree
 reshape_sparse d kind (To given) = to_set d kind given
 reshape_sparse d kind (Slice given) = no_source given
-reshape_sparse d kind (Displace how offsets) = refuse WrongKind
+reshape_sparse d kind (Displace how offsets) = refuse (plain WrongKind)
 reshape_sparse d kind (Combine how given) = no_source given
 
 abbrev pub reshape_associative : Name → DomainKind → NewIndices → Tree
 reshape_associative d kind (To given) = to_set d kind given
 reshape_associative d kind (Slice given) = no_source given
-reshape_associative d kind (Displace how offsets) = refuse WrongKind
+reshape_associative d kind (Displace how offsets) = refuse (plain WrongKind)
 reshape_associative d kind (Combine how given) = combine_set d kind how given
 
 -- ---- any domain

@@ -8,13 +8,13 @@ use crate::footprint::Footprint;
 use crate::looks::resizing::has_members;
 use crate::looks::{judgements, one_cell};
 use std::alloc::Global;
-use wb_book::Book;
 use wb_cells::{AnyDomain, AnyIndex, Cell, Delta, Name, Value};
+use wb_layers::Layered;
 
 /// A new index of a sparse or associative domain.
 pub(crate) fn plan_add(
     alloc: Global,
-    book: &Book,
+    book: &Layered<'_>,
     footprint: &mut Footprint,
     domain: Name,
     index: AnyIndex,
@@ -30,7 +30,7 @@ pub(crate) fn plan_add(
 
 fn add_unless(
     alloc: Global,
-    book: &Book,
+    book: &Layered<'_>,
     footprint: &mut Footprint,
     there: Option<Value>,
     domain: Name,

@@ -17,13 +17,13 @@ use crate::footprint::Footprint;
 use crate::looks::{elements, numbers, one_cell};
 use crate::operation::Operation;
 use std::alloc::Global;
-use wb_book::Book;
 use wb_cells::{AnyIndex, AnyRect, Delta, Name, Refusal, Row};
+use wb_layers::Layered;
 
 /// Each element of an array becomes what it and another array's element at the same index make.
 pub(crate) fn plan_all(
     alloc: Global,
-    book: &Book,
+    book: &Layered<'_>,
     footprint: &mut Footprint,
     array: Name,
     how: &Operation,
@@ -35,7 +35,7 @@ pub(crate) fn plan_all(
     let (over, _kind_of_other) = one_cell::array_named(book, footprint, other)?;
     stopped(elements::same_domain(domain, over))?;
     // For the proof: the workbook is well formed, so arrays over one domain have the same indices.
-    let _writes = book.writes();
+    book.is_formed();
     plan_all_results(alloc, book, footprint, array, how, other)
 }
 
@@ -43,7 +43,7 @@ pub(crate) fn plan_all(
 /// one domain.
 fn plan_all_results(
     alloc: Global,
-    book: &Book,
+    book: &Layered<'_>,
     footprint: &mut Footprint,
     array: Name,
     how: &Operation,
@@ -60,7 +60,7 @@ fn plan_all_results(
 // What the elements of two arrays at the same indices make: by numbers alone where the indices are those of a rectangle.
 fn all_changes(
     alloc: Global,
-    book: &Book,
+    book: &Layered<'_>,
     array: Name,
     how: &Operation,
     other: Name,
@@ -77,7 +77,7 @@ fn all_changes(
 // What the elements of two arrays at the same indices make, by numbers alone, where the indices are those of ranges.
 fn changes_by_numbers(
     alloc: Global,
-    book: &Book,
+    book: &Layered<'_>,
     array: Name,
     how: &Operation,
     other: Name,
@@ -100,7 +100,7 @@ fn changes_by_numbers(
 // What the elements of two arrays at the same indices make, element by element.
 fn changes_by_elements(
     alloc: Global,
-    book: &Book,
+    book: &Layered<'_>,
     array: Name,
     how: &Operation,
     other: Name,

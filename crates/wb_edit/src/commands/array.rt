@@ -10,13 +10,13 @@ use crate::indexed_cells::IndexedCells;
 use crate::looks::indices::{Indices, domain_indices};
 use crate::looks::one_cell;
 use std::alloc::Global;
-use wb_book::Book;
 use wb_cells::{Binding, Cell, Delta, Kind, Name, Value};
+use wb_layers::Layered;
 
 /// A new array over a domain.
 pub(crate) fn plan_array(
     alloc: Global,
-    book: &Book,
+    book: &Layered<'_>,
     footprint: &mut Footprint,
     name: Name,
     domain: Name,

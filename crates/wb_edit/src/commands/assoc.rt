@@ -11,13 +11,13 @@ use crate::commands::writes::put;
 use crate::footprint::Footprint;
 use crate::looks::one_cell;
 use std::alloc::Global;
-use wb_book::Book;
 use wb_cells::{AnyDomain, Cell, Delta, DomainKind, KeyType, Name, Value};
+use wb_layers::Layered;
 
 /// A new associative domain.
 pub(crate) fn plan_assoc(
     alloc: Global,
-    book: &Book,
+    book: &Layered<'_>,
     footprint: &mut Footprint,
     name: Name,
     key: &KeyType,

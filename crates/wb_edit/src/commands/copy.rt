@@ -8,13 +8,13 @@ use crate::footprint::Footprint;
 use crate::looks::implicit::{ArrayRef, element_or_implicit};
 use crate::looks::{judgements, numbers, one_cell};
 use std::alloc::Global;
-use wb_book::Book;
 use wb_cells::{AnyIndex, Delta, Name};
+use wb_layers::Layered;
 
 /// An element that is another one and a number more.
 pub(crate) fn plan_copy(
     alloc: Global,
-    book: &Book,
+    book: &Layered<'_>,
     footprint: &mut Footprint,
     target: (Name, AnyIndex),
     source: (Name, AnyIndex),

@@ -9,13 +9,13 @@ use crate::footprint::Footprint;
 use crate::indexed_cells::IndexedCells;
 use crate::looks::{layouts, one_cell, rectangles};
 use std::alloc::Global;
-use wb_book::Book;
 use wb_cells::{AnyDomain, AnyLayout, AnyRect, Cell, Delta, DomainKind, Name, Value};
+use wb_layers::Layered;
 
 /// A new rectangular domain.
 pub(crate) fn plan_domain(
     alloc: Global,
-    book: &Book,
+    book: &Layered<'_>,
     footprint: &mut Footprint,
     name: Name,
     asked: &AskedRectangle,

@@ -10,13 +10,13 @@ use crate::indexed_cells::IndexedCells;
 use crate::looks::indices::Indices;
 use crate::looks::{elements, one_cell};
 use std::alloc::Global;
-use wb_book::Book;
 use wb_cells::{Cell, Delta, Name};
+use wb_layers::Layered;
 
 /// The end of an array.
 pub(crate) fn plan_drop_array(
     alloc: Global,
-    book: &Book,
+    book: &Layered<'_>,
     footprint: &mut Footprint,
     array: Name,
 ) -> Result<Delta, AttemptErr>

@@ -13,13 +13,13 @@ use crate::looks::indices::{Indices, domain_indices};
 use crate::looks::one_cell;
 use crate::looks::users::unused;
 use std::alloc::Global;
-use wb_book::Book;
 use wb_cells::{AnyDomain, Cell, Delta, DomainKind, Name};
+use wb_layers::Layered;
 
 /// The end of a domain.
 pub(crate) fn plan_drop_domain(
     alloc: Global,
-    book: &Book,
+    book: &Layered<'_>,
     footprint: &mut Footprint,
     domain: Name,
 ) -> Result<Delta, AttemptErr>

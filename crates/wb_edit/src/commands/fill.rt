@@ -13,13 +13,13 @@ use crate::footprint::Footprint;
 use crate::indexed_cells::IndexedCells;
 use crate::looks::{one_cell, rectangles};
 use std::alloc::Global;
-use wb_book::Book;
 use wb_cells::{AnyRect, Delta, Name, Value};
+use wb_layers::Layered;
 
 /// One number at the indices of a rectangle.
 pub(crate) fn plan_fill(
     alloc: Global,
-    book: &Book,
+    book: &Layered<'_>,
     footprint: &mut Footprint,
     array: Name,
     asked: &AskedRectangle,

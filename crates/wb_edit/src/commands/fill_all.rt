@@ -13,13 +13,13 @@ use crate::indexed_cells::IndexedCells;
 use crate::looks::indices::Indices;
 use crate::looks::{elements, one_cell};
 use std::alloc::Global;
-use wb_book::Book;
 use wb_cells::{Delta, Name, Value};
+use wb_layers::Layered;
 
 /// One number as every element of an array.
 pub(crate) fn plan_fill_all(
     alloc: Global,
-    book: &Book,
+    book: &Layered<'_>,
     footprint: &mut Footprint,
     array: Name,
     value: i64,

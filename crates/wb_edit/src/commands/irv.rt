@@ -10,13 +10,13 @@ use crate::commands::writes::put;
 use crate::footprint::Footprint;
 use crate::looks::{kinds, one_cell};
 use std::alloc::Global;
-use wb_book::Book;
 use wb_cells::{Cell, Delta, Name, Value};
+use wb_layers::Layered;
 
 /// A new implicit value.
 pub(crate) fn plan_irv(
     alloc: Global,
-    book: &Book,
+    book: &Layered<'_>,
     footprint: &mut Footprint,
     array: Name,
     value: i64,

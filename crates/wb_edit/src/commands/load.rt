@@ -10,14 +10,14 @@ use crate::footprint::Footprint;
 use crate::looks::objects;
 use std::alloc::Global;
 use std::collections::BTreeMap;
-use wb_book::Book;
 use wb_cells::{Cell, Delta, Value};
+use wb_layers::Layered;
 use wb_text::BookText;
 
 /// The workbook of a text.
 pub(crate) fn plan_load(
     alloc: Global,
-    book: &Book,
+    book: &Layered<'_>,
     footprint: &mut Footprint,
     text: &BookText,
 ) -> Result<Delta, AttemptErr>

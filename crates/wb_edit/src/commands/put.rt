@@ -11,13 +11,13 @@ use crate::footprint::Footprint;
 use crate::looks::{one_cell, rectangles};
 use crate::numbered_rectangle::NumberedRectangle;
 use std::alloc::Global;
-use wb_book::Book;
 use wb_cells::{Delta, Kind, Name, Refusal};
+use wb_layers::Layered;
 
 /// A number for each index of a rectangle.
 pub(crate) fn plan_put(
     alloc: Global,
-    book: &Book,
+    book: &Layered<'_>,
     footprint: &mut Footprint,
     array: Name,
     asked: &AskedNumbers,
@@ -36,7 +36,7 @@ pub(crate) fn plan_put(
 // A number for each index of a rectangle, where the array is there, over a domain of this kind.
 fn plan_numbers(
     alloc: Global,
-    book: &Book,
+    book: &Layered<'_>,
     footprint: &mut Footprint,
     array: Name,
     kind: Kind,

@@ -10,13 +10,13 @@ use crate::commands::writes::put;
 use crate::footprint::Footprint;
 use crate::looks::{kinds, layouts, one_cell};
 use std::alloc::Global;
-use wb_book::Book;
 use wb_cells::{AnyLayout, Cell, Delta, Name, Value};
+use wb_layers::Layered;
 
 /// A new mapping of a rectangular domain.
 pub(crate) fn plan_remap(
     alloc: Global,
-    book: &Book,
+    book: &Layered<'_>,
     footprint: &mut Footprint,
     domain: Name,
     mapping: &AnyLayout,

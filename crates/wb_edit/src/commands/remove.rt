@@ -9,13 +9,13 @@ use crate::looks::resizing::{has_members, zeros};
 use crate::looks::users::{arrays, uses};
 use crate::looks::{judgements, one_cell};
 use std::alloc::Global;
-use wb_book::Book;
 use wb_cells::{AnyDomain, AnyIndex, Cell, Delta, Name, Value};
+use wb_layers::Layered;
 
 /// The end of an index of a sparse or associative domain.
 pub(crate) fn plan_remove(
     alloc: Global,
-    book: &Book,
+    book: &Layered<'_>,
     footprint: &mut Footprint,
     domain: Name,
     index: AnyIndex,
@@ -31,7 +31,7 @@ pub(crate) fn plan_remove(
 
 fn remove_if(
     alloc: Global,
-    book: &Book,
+    book: &Layered<'_>,
     footprint: &mut Footprint,
     there: Option<Value>,
     domain: Name,
@@ -49,7 +49,7 @@ fn remove_if(
 // The index, which is there, leaves the domain.
 fn plan_left(
     alloc: Global,
-    book: &Book,
+    book: &Layered<'_>,
     footprint: &mut Footprint,
     domain: Name,
     kind: &AnyDomain,

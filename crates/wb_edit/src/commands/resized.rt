@@ -16,13 +16,13 @@ use crate::commands::writes::{NamedDomain, resize};
 use crate::footprint::Footprint;
 use crate::looks::resizing::{all_in_parent, fills};
 use std::alloc::Global;
-use wb_book::Book;
 use wb_cells::{AnyDomain, AnyIndex, Delta, Name};
+use wb_layers::Layered;
 
 /// Indices leave a sparse or associative domain and others come to it.
 pub(crate) fn plan_resized(
     alloc: Global,
-    book: &Book,
+    book: &Layered<'_>,
     footprint: &mut Footprint,
     domain: Name,
     kind: &AnyDomain,
@@ -42,7 +42,7 @@ pub(crate) fn plan_resized(
 /// Indices leave a sparse or associative domain, and others, which it may have, come to it.
 pub(crate) fn plan_exchanged(
     alloc: Global,
-    book: &Book,
+    book: &Layered<'_>,
     footprint: &mut Footprint,
     domain: Name,
     kind: &AnyDomain,

@@ -10,13 +10,13 @@ use crate::commands::writes::put;
 use crate::footprint::Footprint;
 use crate::looks::{judgements, one_cell};
 use std::alloc::Global;
-use wb_book::Book;
 use wb_cells::{AnyIndex, Cell, Delta, Name, Value};
+use wb_layers::Layered;
 
 /// A new element.
 pub(crate) fn plan_set(
     alloc: Global,
-    book: &Book,
+    book: &Layered<'_>,
     footprint: &mut Footprint,
     array: Name,
     index: AnyIndex,

@@ -12,13 +12,13 @@ use crate::commands::writes::put;
 use crate::footprint::Footprint;
 use crate::looks::{kinds, one_cell};
 use std::alloc::Global;
-use wb_book::Book;
 use wb_cells::{AnyDomain, Binding, Cell, Delta, DomainKind, Name, Value};
+use wb_layers::Layered;
 
 /// A new sparse domain in a rectangular one.
 pub(crate) fn plan_sparse(
     alloc: Global,
-    book: &Book,
+    book: &Layered<'_>,
     footprint: &mut Footprint,
     name: Name,
     parent: Name,

@@ -12,8 +12,8 @@ use crate::attempt_err::AttemptErr;
 use crate::footprint::Footprint;
 use crate::looks::indices::Indices;
 use std::alloc::Global;
-use wb_book::Book;
 use wb_cells::{AnyIndex, Name, Pattern, Refusal};
+use wb_layers::Layered;
 use wb_range::NoMemory;
 
 /// All elements of an array are looked at, whether or not they are listed.
@@ -35,7 +35,7 @@ fn index_of(element: &(AnyIndex, i64)) -> AnyIndex
 }
 
 // The indices of the elements of an array, one by one.
-fn listed_indices(alloc: Global, book: &Book, array: Name) -> Result<Vec<AnyIndex>, NoMemory>
+fn listed_indices(alloc: Global, book: &Layered<'_>, array: Name) -> Result<Vec<AnyIndex>, NoMemory>
     ensures { IfOk result (λ v. v.items ≡ keys_of (readers.elements book.now.cells array)) }
 {
     let elements = book.elements(&array)?;
@@ -46,7 +46,7 @@ fn listed_indices(alloc: Global, book: &Book, array: Name) -> Result<Vec<AnyInde
 }
 
 // The indices of the elements of an array: by their ranges where they are those of a rectangle, and else one by one.
-fn indices_there(alloc: Global, book: &Book, array: Name) -> Result<Indices, NoMemory>
+fn indices_there(alloc: Global, book: &Layered<'_>, array: Name) -> Result<Indices, NoMemory>
     ensures same { IfOk result (λ f. indices_in f ≡ keys_of (readers.elements book.now.cells array)) }
 {
     match book.rectangle(&array) {
@@ -58,7 +58,7 @@ fn indices_there(alloc: Global, book: &Book, array: Name) -> Result<Indices, NoM
 /// The indices of the elements of an array, in their order.
 pub(crate) fn element_indices(
     alloc: Global,
-    book: &Book,
+    book: &Layered<'_>,
     footprint: &mut Footprint,
     array: Name,
 ) -> Result<Indices, AttemptErr>

@@ -10,8 +10,8 @@ use crate::footprint::Footprint;
 use crate::looks::judgements::is_there;
 use crate::looks::numbers::element_or_refusal;
 use crate::looks::one_cell::read;
-use wb_book::Book;
 use wb_cells::{AnyIndex, Cell, DomainKind, Kind, Name, Refusal, Value};
+use wb_layers::Layered;
 
 /// That an array over a domain of this kind has an implicit value of its own; `OutOfDomain` where it has none.
 pub fn has_implicit(kind: &Kind) -> Result<(), Refusal>
@@ -56,7 +56,7 @@ pub(crate) struct ArrayRef {
 
 /// The parent of a sparse domain.
 pub(crate) fn parent_of(
-    book: &Book,
+    book: &Layered<'_>,
     footprint: &mut Footprint,
     domain: Name,
 ) -> Result<Name, AttemptErr>
@@ -68,7 +68,7 @@ pub(crate) fn parent_of(
 
 /// That an index is in a rectangular domain.
 fn is_in_domain(
-    book: &Book,
+    book: &Layered<'_>,
     footprint: &mut Footprint,
     domain: Name,
     index: AnyIndex,
@@ -80,7 +80,11 @@ fn is_in_domain(
 }
 
 /// The implicit value of an array.
-fn implicit_value(book: &Book, footprint: &mut Footprint, array: Name) -> Result<i64, AttemptErr>
+fn implicit_value(
+    book: &Layered<'_>,
+    footprint: &mut Footprint,
+    array: Name,
+) -> Result<i64, AttemptErr>
     ensures { Looks (implicit_value array) book.now.cells footprint.old result footprint.new }
 {
     let value = read(book, footprint, &Cell::Implicit(array))?;
@@ -88,7 +92,7 @@ fn implicit_value(book: &Book, footprint: &mut Footprint, array: Name) -> Result
 }
 
 fn implicit_inside(
-    book: &Book,
+    book: &Layered<'_>,
     footprint: &mut Footprint,
     array: Name,
     parent: Name,
@@ -101,7 +105,7 @@ fn implicit_inside(
 }
 
 fn implicit_at(
-    book: &Book,
+    book: &Layered<'_>,
     footprint: &mut Footprint,
     array: Name,
     domain: Name,
@@ -115,7 +119,7 @@ fn implicit_at(
 
 /// The implicit value at an index of the parent.
 fn implicit(
-    book: &Book,
+    book: &Layered<'_>,
     footprint: &mut Footprint,
     source: &ArrayRef,
     index: AnyIndex,
@@ -127,7 +131,7 @@ fn implicit(
 }
 
 fn or_implicit(
-    book: &Book,
+    book: &Layered<'_>,
     footprint: &mut Footprint,
     source: &ArrayRef,
     index: AnyIndex,
@@ -143,7 +147,7 @@ fn or_implicit(
 
 /// The element at an index, or the implicit value.
 pub(crate) fn element_or_implicit(
-    book: &Book,
+    book: &Layered<'_>,
     footprint: &mut Footprint,
     source: &ArrayRef,
     index: AnyIndex,

@@ -14,8 +14,8 @@ use crate::footprint::Footprint;
 use crate::looks::judgements;
 use crate::looks::one_cell::read;
 use std::alloc::Global;
-use wb_book::Book;
 use wb_cells::{AnyDomain, AnyIndex, AnyRect, Cell, DomainKind, Name, Pattern, members_in};
+use wb_layers::Layered;
 use wb_range::NoMemory;
 
 /// The indices of a domain, in its order.
@@ -41,7 +41,7 @@ pub(crate) fn look_at_members(footprint: &mut Footprint, domain: Name) -> Result
 /// The indices that a sparse or associative domain has, ascending.
 pub(crate) fn listed_members(
     alloc: Global,
-    book: &Book,
+    book: &Layered<'_>,
     domain: Name,
 ) -> Result<Vec<AnyIndex>, NoMemory>
     ensures same { IfOk result (λ v. v.items ≡ readers.members book.now.cells domain) }
@@ -57,7 +57,7 @@ pub(crate) fn listed_members(
 /// The indices of a sparse or associative domain.
 pub(crate) fn members(
     alloc: Global,
-    book: &Book,
+    book: &Layered<'_>,
     footprint: &mut Footprint,
     domain: Name,
 ) -> Result<Vec<AnyIndex>, AttemptErr>
@@ -75,7 +75,7 @@ pub(crate) fn members(
 /// The indices of a rectangular domain.
 pub(crate) fn points(
     alloc: Global,
-    book: &Book,
+    book: &Layered<'_>,
     footprint: &mut Footprint,
     domain: Name,
 ) -> Result<Indices, AttemptErr>
@@ -115,7 +115,7 @@ fn listed(found: Result<Vec<AnyIndex>, AttemptErr>) -> Result<Indices, AttemptEr
 /// The indices of a domain.
 pub(crate) fn domain_indices(
     alloc: Global,
-    book: &Book,
+    book: &Layered<'_>,
     footprint: &mut Footprint,
     domain: Name,
     kind: &AnyDomain,

@@ -9,12 +9,12 @@ ghost use Rattle.wb_edit.specs.Plans.{Looks};
 use crate::attempt_err::{AttemptErr, stopped};
 use crate::footprint::Footprint;
 use crate::looks::judgements;
-use wb_book::Book;
 use wb_cells::{AnyCell, AnyDomain, AnyIndex, Cell, Kind, Name, Pattern, Value};
+use wb_layers::Layered;
 
 /// What a cell holds.
 pub(crate) fn read(
-    book: &Book,
+    book: &Layered<'_>,
     footprint: &mut Footprint,
     cell: &Cell,
 ) -> Result<Option<Value>, AttemptErr>
@@ -28,7 +28,7 @@ pub(crate) fn read(
 
 /// Nothing has the name.
 pub(crate) fn free_name(
-    book: &Book,
+    book: &Layered<'_>,
     footprint: &mut Footprint,
     name: Name,
 ) -> Result<(), AttemptErr>
@@ -40,7 +40,7 @@ pub(crate) fn free_name(
 
 /// The name is there, and names a domain: what it is.
 pub(crate) fn domain_named(
-    book: &Book,
+    book: &Layered<'_>,
     footprint: &mut Footprint,
     domain: Name,
 ) -> Result<AnyDomain, AttemptErr>
@@ -52,7 +52,7 @@ pub(crate) fn domain_named(
 
 /// The name is there, and names an array: its domain, and that domain's kind.
 pub(crate) fn array_named(
-    book: &Book,
+    book: &Layered<'_>,
     footprint: &mut Footprint,
     array: Name,
 ) -> Result<(Name, Kind), AttemptErr>
@@ -64,7 +64,7 @@ pub(crate) fn array_named(
 
 /// The element is there.
 pub(crate) fn element(
-    book: &Book,
+    book: &Layered<'_>,
     footprint: &mut Footprint,
     array: Name,
     index: AnyIndex,

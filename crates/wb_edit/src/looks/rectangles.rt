@@ -16,8 +16,8 @@ ghost use Rattle.wb_edit.specs.declared.attempt_err.AttemptErr.TheVariants.{NoMe
 use crate::asked_rectangle::AskedRectangle;
 use crate::attempt_err::{AttemptErr, stopped};
 use crate::footprint::Footprint;
-use wb_book::Book;
 use wb_cells::{AnyCell, AnyIndex, AnyRect, Cell, Kind, Name, Pattern, Refusal, Row};
+use wb_layers::Layered;
 
 /// The ranges of the rectangle that is asked for; `WrongKind` where a set is in its place.
 pub fn ranges_of(asked: &AskedRectangle) -> Result<AnyRect, Refusal>
@@ -77,7 +77,7 @@ pub fn there_if(all: bool) -> Result<(), Refusal>
 
 /// Whether a cell is there; it is looked at.
 pub(crate) fn is_present(
-    book: &Book,
+    book: &Layered<'_>,
     footprint: &mut Footprint,
     cell: &Cell,
 ) -> Result<bool, AttemptErr>
@@ -92,7 +92,7 @@ pub(crate) fn is_present(
 }
 
 // Whether an array has its elements at the indices of these ranges, in their order. It may miss that.
-fn has_ranges(book: &Book, array: Name, on: &AnyRect) -> bool
+fn has_ranges(book: &Layered<'_>, array: Name, on: &AnyRect) -> bool
     ensures { result ≡ true → keys_of (elements book.now.cells array) ≡ indices on.now }
 {
     match book.rectangle(&array) {
@@ -102,14 +102,14 @@ fn has_ranges(book: &Book, array: Name, on: &AnyRect) -> bool
 }
 
 // Whether an array has an element at an index.
-fn has_element(book: &Book, array: Name, index: AnyIndex) -> bool
+fn has_element(book: &Layered<'_>, array: Name, index: AnyIndex) -> bool
     ensures { result ≡ is_some (get book.now.cells (Element array index)) }
 {
     book.get(&Cell::Element(array, index)).is_some()
 }
 
 // Whether an array has an element at each index of a rectangle, one after another.
-fn each_present(book: &Book, array: Name, on: &AnyRect) -> bool
+fn each_present(book: &Layered<'_>, array: Name, on: &AnyRect) -> bool
     ensures { result ≡ list_all is_some (map (get book.now.cells) (map (Element array) (indices on.now))) }
 {
     let mut all = true;
@@ -126,7 +126,7 @@ fn each_present(book: &Book, array: Name, on: &AnyRect) -> bool
 }
 
 // Whether an array has an element at each index of a rectangle.
-fn all_present(book: &Book, array: Name, on: &AnyRect) -> bool
+fn all_present(book: &Layered<'_>, array: Name, on: &AnyRect) -> bool
     ensures { result ≡ list_all is_some (map (get book.now.cells) (map (Element array) (indices on.now))) }
 {
     if has_ranges(book, array, on) {
@@ -137,7 +137,7 @@ fn all_present(book: &Book, array: Name, on: &AnyRect) -> bool
 
 // Whether an array has an element at each index of a rectangle; the footprint keeps that they are looked at.
 fn are_present(
-    book: &Book,
+    book: &Layered<'_>,
     footprint: &mut Footprint,
     array: Name,
     on: &AnyRect,
@@ -161,7 +161,7 @@ pub(crate) fn both_answers(all: bool, here: bool) -> bool
 
 /// An array's elements at the indices of a rectangle.
 pub(crate) fn all_elements(
-    book: &Book,
+    book: &Layered<'_>,
     footprint: &mut Footprint,
     array: Name,
     on: &AnyRect,

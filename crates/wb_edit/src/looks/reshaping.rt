@@ -13,8 +13,8 @@ use crate::attempt_err::{AttemptErr, stopped};
 use crate::footprint::Footprint;
 use crate::looks::one_cell::read;
 use crate::looks::rectangles::is_present;
-use wb_book::Book;
 use wb_cells::{AnyIndex, AnyRect, Cell, Name, Refusal, Value};
+use wb_layers::Layered;
 
 /// The ranges that a cell holds; `WrongKind` where it holds none.
 pub fn shape_in(shape: Option<Value>) -> Result<AnyRect, Refusal>
@@ -36,7 +36,7 @@ pub fn shape_in(shape: Option<Value>) -> Result<AnyRect, Refusal>
 
 /// The ranges of a rectangular domain.
 pub(crate) fn shape(
-    book: &Book,
+    book: &Layered<'_>,
     footprint: &mut Footprint,
     domain: Name,
 ) -> Result<AnyRect, AttemptErr>
@@ -62,7 +62,7 @@ fn either_answer(any: bool, here: bool) -> bool
 
 // Whether a domain has one of some indices; each of them is looked at.
 fn has_some(
-    book: &Book,
+    book: &Layered<'_>,
     footprint: &mut Footprint,
     domain: Name,
     listed: &[AnyIndex],
@@ -81,7 +81,7 @@ fn has_some(
 
 // Whether one of some domains has one of some indices; each index is looked at in each domain.
 fn some_have(
-    book: &Book,
+    book: &Layered<'_>,
     footprint: &mut Footprint,
     domains: &[Name],
     listed: &[AnyIndex],
@@ -100,7 +100,7 @@ fn some_have(
 
 /// None of some indices is in one of the domains.
 pub(crate) fn none_there(
-    book: &Book,
+    book: &Layered<'_>,
     footprint: &mut Footprint,
     domains: &[Name],
     listed: &[AnyIndex],

@@ -18,8 +18,8 @@ use crate::indexed_cells::{IndexedCells, cell_at};
 use crate::looks::rectangles::{both_answers, is_present};
 use crate::looks::users::{arrays, uses};
 use std::alloc::{AllocError, Global};
-use wb_book::Book;
 use wb_cells::{AnyCell, AnyDomain, AnyIndex, Cell, DomainKind, Name, Pattern, Refusal, Value};
+use wb_layers::Layered;
 
 /// That a domain is sparse or associative; `WrongKind` where it is rectangular.
 pub fn has_members(kind: &AnyDomain) -> Result<(), Refusal>
@@ -45,7 +45,7 @@ pub fn inside_if(all: bool) -> Result<(), Refusal>
 
 /// Whether the cells of some indices are all there; each of them is looked at.
 pub(crate) fn are_there(
-    book: &Book,
+    book: &Layered<'_>,
     footprint: &mut Footprint,
     indexed: &IndexedCells,
     listed: &[AnyIndex],
@@ -64,7 +64,7 @@ pub(crate) fn are_there(
 
 /// All indices are in a rectangular domain.
 fn all_in_domain(
-    book: &Book,
+    book: &Layered<'_>,
     footprint: &mut Footprint,
     parent: Name,
     listed: &[AnyIndex],
@@ -77,7 +77,7 @@ fn all_in_domain(
 
 /// The domain may have the indices: if it is sparse, they are in its parent.
 pub(crate) fn all_in_parent(
-    book: &Book,
+    book: &Layered<'_>,
     footprint: &mut Footprint,
     kind: &AnyDomain,
     listed: &[AnyIndex],
@@ -111,7 +111,7 @@ fn number_or_zero(value: Option<Value>) -> i64
 
 // An array with its implicit value, which is looked at.
 fn with_implicit(
-    book: &Book,
+    book: &Layered<'_>,
     footprint: &mut Footprint,
     array: Name,
 ) -> Result<(Name, i64), AttemptErr>
@@ -129,7 +129,7 @@ fn with_implicit(
 // Each array with its implicit value; each of these is looked at.
 fn with_implicits(
     alloc: Global,
-    book: &Book,
+    book: &Layered<'_>,
     footprint: &mut Footprint,
     arrays: &[Name],
 ) -> Result<Vec<(Name, i64)>, AttemptErr>
@@ -166,7 +166,7 @@ pub(crate) fn zeros(alloc: Global, arrays: &[Name]) -> Result<Vec<(Name, i64)>, 
 
 fn defaults(
     alloc: Global,
-    book: &Book,
+    book: &Layered<'_>,
     footprint: &mut Footprint,
     kind: &AnyDomain,
     arrays: &[Name],
@@ -184,7 +184,7 @@ fn defaults(
 /// The arrays over a domain, each with what a new index brings to it.
 pub(crate) fn fills(
     alloc: Global,
-    book: &Book,
+    book: &Layered<'_>,
     footprint: &mut Footprint,
     domain: Name,
     kind: &AnyDomain,

@@ -18,8 +18,8 @@ use crate::looks::one_cell::domain_named;
 use crate::looks::rectangles::{both_answers, of_rank};
 use crate::looks::reshaping::shape;
 use std::alloc::Global;
-use wb_book::Book;
 use wb_cells::{AnyIndex, AnyRect, KeyType, Kind, Name, Point, Refusal};
+use wb_layers::Layered;
 use wb_range::Domain;
 use wb_rect::RectErr;
 use wb_reshape::new_rectangles::displaced;
@@ -133,7 +133,7 @@ pub fn all_fit(kind: Kind, listed: &[AnyIndex]) -> Result<(), Refusal>
 
 // The name is that of a rectangular domain of the rank.
 fn names_rectangle(
-    book: &Book,
+    book: &Layered<'_>,
     footprint: &mut Footprint,
     rank: u8,
     name: Name,
@@ -146,7 +146,7 @@ fn names_rectangle(
 
 /// A rectangle of the rank is given.
 pub(crate) fn gives_rectangle(
-    book: &Book,
+    book: &Layered<'_>,
     footprint: &mut Footprint,
     rank: u8,
     given: &Operand,
@@ -162,7 +162,7 @@ pub(crate) fn gives_rectangle(
 
 /// The ranges that are given.
 pub(crate) fn ranges_given(
-    book: &Book,
+    book: &Layered<'_>,
     footprint: &mut Footprint,
     given: &Operand,
 ) -> Result<AnyRect, AttemptErr>
@@ -177,7 +177,7 @@ pub(crate) fn ranges_given(
 
 // The name is that of a domain like one of the kind.
 fn names_set(
-    book: &Book,
+    book: &Layered<'_>,
     footprint: &mut Footprint,
     kind: Kind,
     name: Name,
@@ -190,7 +190,7 @@ fn names_set(
 
 /// A set for a domain of the kind is given.
 pub(crate) fn gives_set(
-    book: &Book,
+    book: &Layered<'_>,
     footprint: &mut Footprint,
     kind: Kind,
     given: &Operand,
@@ -222,7 +222,7 @@ fn listed(alloc: Global, items: &Assoc<AnyIndex>) -> Result<Vec<AnyIndex>, Attem
 /// The indices that are given.
 pub(crate) fn indices_given(
     alloc: Global,
-    book: &Book,
+    book: &Layered<'_>,
     footprint: &mut Footprint,
     given: &Operand,
 ) -> Result<Vec<AnyIndex>, AttemptErr>

@@ -13,8 +13,8 @@ ghost use Rattle.wb_edit.specs.declared.attempt_err.AttemptErr.TheVariants.{NoMe
 use crate::attempt_err::{AttemptErr, stopped};
 use crate::footprint::Footprint;
 use std::alloc::{AllocError, Global};
-use wb_book::Book;
 use wb_cells::{Binding, Cell, Name, Pattern, Refusal, Value};
+use wb_layers::Layered;
 
 // How a value says that an object is bound, if it does.
 fn binding_in(value: &Value) -> Option<Binding>
@@ -66,7 +66,7 @@ fn users_in(alloc: Global, shown: &[(Cell, Value)]) -> Result<Vec<(Name, Binding
 /// What is bound to a domain, and how, by their names.
 pub(crate) fn uses(
     alloc: Global,
-    book: &Book,
+    book: &Layered<'_>,
     footprint: &mut Footprint,
     domain: Name,
 ) -> Result<Vec<(Name, Binding)>, AttemptErr>
@@ -171,7 +171,7 @@ pub fn is_unused(users: &[(Name, Binding)]) -> Result<(), Refusal>
 /// Nothing is bound to the domain.
 pub(crate) fn unused(
     alloc: Global,
-    book: &Book,
+    book: &Layered<'_>,
     footprint: &mut Footprint,
     domain: Name,
 ) -> Result<(), AttemptErr>

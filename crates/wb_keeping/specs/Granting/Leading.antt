@@ -9,7 +9,7 @@ use Rattle.wb_log.specs.Replies.{UndoReply, ByNumber}
 use Rattle.wb_log.specs.Cascades.{IsDependent, IsRisen, all_out_of_force, places, set_back, touched}
 use Rattle.wb_log.specs.Past.{out_of_force}
 use Rattle.wb_history.proofs.OneAnswer.{edit_answer_law, undo_answer_law, redo_answer_law}
-use Rattle.wb_edit.specs.Commands.{meaning}
+use Rattle.wb_edit.specs.Edits.{meaning}
 use Rattle.wb_cells.specs.Schema.{workbook}
 use Rattle.wb_edit.specs.declared.edit.Edit.{Edit}
 use Rattle.wb_history.specs.Past.{Numbered, Past, meant}

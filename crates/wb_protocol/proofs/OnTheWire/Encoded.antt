@@ -2,7 +2,7 @@
 use Rattle.std.proofs.Common.{◌≡◌, ◌∙◌, ◌^◌, ℕ, ℤ, pos, negsuc, List, [], ◌∷◌, map, codes, length, Option, Some, None, inl, inr, nat_eq, refl, sym, ap, subst}
 use Rattle.std.proofs.Common.{append-nil, if◌then◌else◌, arith, lt-ltb}
 use Rattle.std.proofs.lemmas.List.Elements.{recursion_from_All}
-use Rattle.serde_json.specs.Data.{unsigned, string, no_items}
+use Rattle.serde_json.specs.Data.{Data, null, unsigned, string, no_items}
 use Rattle.serde_json.specs.Find.{get_member, of_integer}
 use Rattle.serde_json.specs.View.{items_of}
 use Rattle.wb_range.specs.Canonical.{IsRange}
@@ -28,10 +28,12 @@ use Rattle.wb_text.proofs.Parsed.Back.Sets as sets
 use Rattle.wb_protocol.specs.Encoding.Values.{integer_data, point_data, index_data}
 use Rattle.wb_protocol.specs.declared.requests.request.Request.{Request}
 use Rattle.wb_protocol.specs.Wire.Table.{Meaning, word, name, integer, number, index, given, mapping, optional_mapping, book, numbers}
-use Rattle.wb_protocol.specs.Wire.Table.{some_set, some_numbers, Fields, table}
-use Rattle.wb_protocol.specs.Wire.Spelled.{IsInteger, AreIntegers, IsIndex, IsOperand, IsMapping, Spells, Says, without, HasFields, IsRequest}
-use Rattle.wb_protocol.specs.Wire.Encoded.{given_text, data_of, members_of, request_data}
-use Rattle.wb_protocol.specs.Wire.Proper.{AllWithin, ArePoints, AreTexts, AreAlike, IsProperIndex, IsProperOperand, IsProper, AreProper, IsProperRequest}
+use Rattle.wb_protocol.specs.Wire.Table.{some_set, some_numbers, note, edits, Fields, command_table, table}
+use Rattle.wb_edit.specs.declared.command.Command.{Command}
+use Rattle.wb_protocol.specs.Wire.Spelled.{IsInteger, AreIntegers, IsIndex, IsOperand, IsMapping, SpellsBy, SaysBy, without, HasFieldsBy, IsCommand, AreCommands, IsEdits, IsRequest}
+use Rattle.wb_protocol.specs.Encoding.Encoded.{data_by, members_by, command_data, commands_data}
+use Rattle.wb_protocol.specs.Wire.Encoded.{given_text, members_of, request_data}
+use Rattle.wb_protocol.specs.Wire.Proper.{AllWithin, ArePoints, AreTexts, AreAlike, IsProperIndex, IsProperOperand, IsProperBy, AreProperBy, AreProperCommands, AreProperEdits, IsProperRequest}
 use Rattle.wb_protocol.proofs.OnTheWire.Members.{found_by, same_key}
 
 -- ---- numbers and indices
@@ -103,29 +105,44 @@ given_spelled (Rectangle ranges) h = rectangle_given ranges h
 given_spelled (Items is) h = set_given is h.0 h.1
 given_spelled (Named n) h = (refl, h)
 
--- ---- every member, and all of them
+-- ---- every member, and all of them, by what spells commands
 
-spelled : (x : Meaning) → IsProper x → Spells (data_of x) x
-spelled (word w) h = refl
-spelled (name n) h = (refl, h)
-spelled (integer z) h = integer_spelled z h
-spelled (number k) h = (unsigned k, refl, refl)
-spelled (index i) h = index_spelled i h
-spelled (given g) h = given_spelled g h
-spelled (mapping m) h = mapping_given m h
-spelled (optional_mapping m) h = mapping_given m h
-spelled (book text) h = (refl, h)
-spelled (numbers on vs) h = ((items_of (map integer_data vs), refl, integers_spelled vs h.0), h.1)
-spelled some_set h = (codes "{}", nothing, refl, ([], tt, refl))
-spelled some_numbers h = ([], (no_items, refl, tt))
+module _ (P : List Command → Type 0) (E : Data → List Command → Type 0) (several : List Command → Data) (given_several : (cs : List Command) → P cs → E (several cs) cs) where
+  spelled : (x : Meaning) → IsProperBy P x → SpellsBy E (data_by several x) x
+  spelled (word w) h = refl
+  spelled (name n) h = (refl, h)
+  spelled (integer z) h = integer_spelled z h
+  spelled (number k) h = (unsigned k, refl, refl)
+  spelled (index i) h = index_spelled i h
+  spelled (given g) h = given_spelled g h
+  spelled (mapping m) h = mapping_given m h
+  spelled (optional_mapping m) h = mapping_given m h
+  spelled (book text) h = (refl, h)
+  spelled (numbers on vs) h = ((items_of (map integer_data vs), refl, integers_spelled vs h.0), h.1)
+  spelled some_set h = (codes "{}", nothing, refl, ([], tt, refl))
+  spelled some_numbers h = ([], (no_items, refl, tt))
+  spelled (note n) h = (refl, h)
+  spelled (edits cs) h = given_several cs h
 
-has_members : (fs : Fields) → AreProper fs → HasFields (members_of fs) fs
-has_members [] h = refl
-has_members (f ∷ fs) h =
-    let k = same_key f.0 in
-    let found : get_member f.0 (members_of (f ∷ fs)) ≡ Some (data_of f.1) = found_by f.0 f.0 (data_of f.1) (members_of fs) ∙ rw k refl in
-    let rest : without f.0 (members_of (f ∷ fs)) ≡ members_of fs = rw k refl in
-    (subst (λ o. Says o f.1) (sym found) (spelled f.1 h.0), subst (λ ms. HasFields ms fs) (sym rest) (has_members fs h.1))
+  has_members : (fs : Fields) → AreProperBy P fs → HasFieldsBy E (members_by several fs) fs
+  has_members [] h = refl
+  has_members (f ∷ fs) h =
+      let k = same_key f.0 in
+      let found : get_member f.0 (members_by several (f ∷ fs)) ≡ Some (data_by several f.1) =
+      found_by f.0 f.0 (data_by several f.1) (members_by several fs) ∙ rw k refl in
+      let rest : without f.0 (members_by several (f ∷ fs)) ≡ members_by several fs = rw k refl in
+      (subst (λ o. SaysBy E o f.1) (sym found) (spelled f.1 h.0), subst (λ ms. HasFieldsBy E ms fs) (sym rest) (has_members fs h.1))
+
+command_spelled : (c : Command) → AreProperBy (λ cs. ⊥) (command_table c) → IsCommand (command_data c) c
+command_spelled c h =
+    (members_by (λ cs. null) (command_table c), refl, has_members (λ cs. ⊥) (λ v cs. ⊥) (λ cs. null) (λ cs k. k) (command_table c) h)
+
+commands_spelled : (cs : List Command) → AreProperCommands cs → AreCommands (items_of (map command_data cs)) cs
+commands_spelled [] h = tt
+commands_spelled (c ∷ cs) h = (command_spelled c h.0, commands_spelled cs h.1)
+
+edits_spelled : (cs : List Command) → AreProperEdits cs → IsEdits (commands_data cs) cs
+edits_spelled cs h = (items_of (map command_data cs), refl, commands_spelled cs h.0, h.1)
 
 pub encoded : (r : Request) → IsProperRequest r → IsRequest (request_data r) r
-encoded r h = (members_of (table r), refl, has_members (table r) h)
+encoded r h = (members_of (table r), refl, has_members AreProperEdits IsEdits commands_data edits_spelled (table r) h)

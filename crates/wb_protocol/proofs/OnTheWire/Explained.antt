@@ -1,13 +1,13 @@
 -- What is told of a JSON value that is no request is the least of all that is wrong with it, at the field where it is.
-use Rattle.std.proofs.Common.{◌≡◌, ◌≤◌, ◌&&◌, ℕ, ℤ, Bool, true, false, List, [], ◌∷◌, codes, length, Option, Some, None, is_some, option_map}
+use Rattle.std.proofs.Common.{◌≡◌, ◌≤◌, ◌+◌, ◌&&◌, ℕ, zero, suc, ℤ, Bool, true, false, List, [], ◌∷◌, codes, length, Option, Some, None, is_some, option_map}
 use Rattle.std.proofs.Common.{option_and_then, Result, Ok, Err, refl, sym, ap, ◌∙◌, subst, nat_eq, nat_lt, if◌then◌else◌, arith, eqb-true, eq-eqb, ltb-true}
 use Rattle.std.specs.Prelude.{bytes_eq, Contains}
 use Rattle.std.specs.Option.{ok_or}
 use Rattle.std.specs.List.{list_all}
 use Rattle.std.proofs.lemmas.List.Elements.{All-contains}
 use Rattle.std.proofs.lemmas.List.Sums.{AllPass-from_list_all}
-use Rattle.serde_json.specs.Data.{Data, null, boolean, number as json_number, string, array, object, Members}
-use Rattle.serde_json.specs.Find.{get_member, as_str, as_number, as_i64, as_u64}
+use Rattle.serde_json.specs.Data.{Data, null, boolean, number as json_number, string, array, object, Items, no_items, item, Members}
+use Rattle.serde_json.specs.Find.{get_item, get_member, as_str, as_number, as_i64, as_u64}
 use Rattle.wb_sets.proofs.Members.{first_contains, cons_contains}
 use Rattle.wb_cells.specs.Shapes.{Range, indices}
 use Rattle.wb_log.specs.declared.refusal.Refusal.{Refusal}
@@ -15,28 +15,29 @@ use Rattle.wb_log.specs.declared.refusal.Refusal.TheVariants.{BadRequest}
 use Rattle.wb_literals.specs.Domain.{Domain, rectangle, set}
 use Rattle.wb_literals.specs.Set.{Items as Listed}
 use Rattle.wb_literals.specs.declared.rectangle.RectangleLiteral.{RectangleLiteral}
-use Rattle.wb_protocol.specs.Fields.{◌>>=◌, member_count, integers_of}
+use Rattle.wb_protocol.specs.Fields.{◌>>=◌, member_count, integers_of, is_among}
+use Rattle.wb_protocol.specs.Wire.Table.{command_ops}
 use Rattle.wb_protocol.specs.Literals.{literal_domain, domain_within}
-use Rattle.wb_protocol.specs.Requests.{request_of}
 use Rattle.wb_protocol.specs.Wire.Faults.{Fault, bad_request, bad_literal, too_large, bad_mapping, code, refusal_of, forms, HasKeys, NamesOp, IsWhole, Kind, plain}
-use Rattle.wb_protocol.specs.Wire.Faults.{kind_of, Fails, IsMiscounted, IsFault, not_whole, of_member, of_count, IsLeastFault}
+use Rattle.wb_protocol.specs.Wire.Faults.{fault_told, kind_of, Fails, IsMiscounted, IsOwnFault, not_whole, of_member, of_count, NamesCommand, IsCommandFault, no_command}
+use Rattle.wb_protocol.specs.Wire.Faults.{of_command as of_own_command, EditFails, IsFault, of_own, of_edit}
 use Rattle.wb_protocol.specs.Wire.Faults as kinds
 use Rattle.wb_protocol.specs.Wire.Spelled.{IsIntegers}
-use Rattle.wb_protocol.specs.declared.requests.request.Request.{Request}
-use Rattle.wb_protocol.specs.Explained.{Rule, is_json, is_object, names_op, has_no_more, has_all, has_one_of, spells, are_counted, Explanation, of_whole, of_field}
-use Rattle.wb_protocol.specs.Explained.{fault_told, fault_in, text_in as text_of, within, fault_of, is_there, forms_of, is_form, form_in, foreign_in, missing_in}
+use Rattle.wb_protocol.specs.Explained.{Rule, is_json, is_object, names_op, has_no_more, has_all, has_one_of, spells, are_counted, names_command, Explanation, of_whole, of_field}
+use Rattle.wb_protocol.specs.Explained.{fault_in, text_in as text_of, within, fault_of, is_there, forms_of, is_form, form_in, foreign_in, missing_in}
 use Rattle.wb_protocol.specs.Explained.{formless_by, formless, value_explained, lesser, least_of, values_explained, counted_on, counted_over, counted_by}
-use Rattle.wb_protocol.specs.Explained.{count_explained, formed, op_explained, op_named, data_explained, NamesNone, AtField, Tells, TellsTheLeast}
+use Rattle.wb_protocol.specs.Explained.{count_explained, formed, op_explained, command_named, command_explained, at_place, commands_explained, listed_explained, edits_explained, before_edits}
+use Rattle.wb_protocol.specs.Explained.{op_named, data_explained, NamesNone, AtField, AtPlaceOr, Tells, TellsTheLeast}
 use Rattle.wb_protocol.proofs.OnTheWire.Members.{true_false, equal_key, same_key}
 use Rattle.wb_protocol.proofs.OnTheWire.Values.{no_ok, no_some, some_same, ok_same, str_found, some_of_ok, integers_found_of, integers_read}
 use Rattle.wb_protocol.proofs.OnTheWire.Spellings.{domain_found, domain_read, rectangle_found, rectangle_read}
 use Rattle.wb_protocol.proofs.OnTheWire.Keys.{has, apart, IsThere, AllKeys, keys_counted, keys_there, keys_made, key_there, passes, members_same, not_whole_by, uncounted_op, FailsAt}
 use Rattle.wb_protocol.proofs.OnTheWire.Keys.{all_faults}
 use Rattle.wb_protocol.proofs.OnTheWire.Failing.{err_same, no_err, IsReader, name_reader, key_type_reader, operation_reader, reduction_reader, integer_reader, number_reader}
-use Rattle.wb_protocol.proofs.OnTheWire.Failing.{index_reader, integers_reader, offsets_reader, text_reader, domain_judged, domain_reader, mapping_reader, source_reader, workbook_reader}
-use Rattle.wb_protocol.proofs.OnTheWire.Judged.{NoFault, IsAbove, fails_there, member_fault, least_code}
+use Rattle.wb_protocol.proofs.OnTheWire.Failing.{index_reader, integers_reader, offsets_reader, text_reader, note_reader, several_reader, domain_judged, domain_reader, mapping_reader, source_reader, workbook_reader}
+use Rattle.wb_protocol.proofs.OnTheWire.Judged.{IsLeastOf, IsLeastOwn, NoFault, IsAbove, fails_there, member_fault, least_code}
 use Rattle.wb_protocol.proofs.OnTheWire.Found.{request_found}
-use Rattle.wb_protocol.proofs.OnTheWire.Refused.{faultless_read}
+use Rattle.wb_protocol.proofs.OnTheWire.RefusedSeveral.{told_back, contains_among, one_op, named, WithinFault, no_edits, own_first, faultless_read}
 use Rattle.wb_protocol.proofs.OnTheWire.Which.{foreign_told, missing_told, form_there, formless_op}
 
 -- ---- the fault of a value
@@ -45,12 +46,6 @@ use Rattle.wb_protocol.proofs.OnTheWire.Which.{foreign_told, missing_told, form_
 abbrev Judged : Option Fault → (Fault → Type 0) → Type 0
 Judged None F = (f : Fault) → F f → ⊥
 Judged (Some g) F = F g × ((f : Fault) → F f → f ≡ g)
-
-told_back : (f : Fault) → fault_told (refusal_of f) ≡ f
-told_back bad_request = refl
-told_back bad_literal = refl
-told_back too_large = refl
-told_back bad_mapping = refl
 
 by_answer : {A : Type 0} (kind : Kind) (v : Data) (r : Result A Refusal) → ((why : Refusal) → r ≡ Err why → (f : Fault) × (why ≡ refusal_of f) × Fails kind v f)
     → ((f : Fault) → Fails kind v f → r ≡ Err (refusal_of f)) → Judged (fault_in r) (Fails kind v)
@@ -83,6 +78,8 @@ value_judged (plain kinds.key_type) v = judged_by (plain kinds.key_type) key_typ
 value_judged (plain kinds.operation) v = judged_by (plain kinds.operation) operation_reader v
 value_judged (plain kinds.reduction) v = judged_by (plain kinds.reduction) reduction_reader v
 value_judged (plain kinds.any_text) v = judged_by (plain kinds.any_text) text_reader v
+value_judged (plain kinds.note) v = judged_by (plain kinds.note) note_reader v
+value_judged (plain kinds.several) v = judged_by (plain kinds.several) several_reader v
 value_judged kinds.domain v =
     subst (λ r. Judged (fault_in r) (Fails kinds.domain v))
     (sym (same_steps (text_of v) (λ text. literal_domain text >>= within) (λ text. literal_domain text >>= domain_judged)
@@ -94,17 +91,21 @@ value_judged kinds.workbook v = judged_by kinds.workbook workbook_reader v
 
 -- ---- what is told of the value of a key
 
+-- where something is wrong with the object itself
+abbrev AtOwn : Data → Explanation → Type 0
+AtOwn d x = (x.at ≡ None) × AtField d x.field x.rule x.fault
+
 abbrev Told : Members → List ℕ → List ℕ → Option Explanation → Type 0
 Told ms op k None = (f : Fault) → FailsAt ms op k f → ⊥
-Told ms op k (Some x) = FailsAt ms op k x.fault × AtField (object ms) x.field x.rule x.fault × ((f : Fault) → FailsAt ms op k f → f ≡ x.fault)
+Told ms op k (Some x) = FailsAt ms op k x.fault × AtOwn (object ms) x × ((f : Fault) → FailsAt ms op k f → f ≡ x.fault)
 
 abbrev failed : List ℕ → Kind → Fault → Explanation
-failed k kind f = record { fault = f; field = Some k; rule = spells kind }
+failed k kind f = record { fault = f; field = Some k; rule = spells kind; at = None }
 
 with_fault : (ms : Members) (op k : List ℕ) (kind : Kind) (v : Data) → kind_of op k ≡ Some kind → get_member k ms ≡ Some v → (o : Option Fault) →
     Judged o (Fails kind v) → Told ms op k (option_map (failed k kind) o)
 with_fault ms op k kind v e g None h = λ f x. h f (fails_there ms op k kind v f e g x)
-with_fault ms op k kind v e g (Some f) h = ((kind, v, e, g, h.0), (ms, v, refl, g, h.0), λ f x. h.1 f (fails_there ms op k kind v f e g x))
+with_fault ms op k kind v e g (Some f) h = ((kind, v, e, g, h.0), (refl, (ms, v, refl, g, h.0)), λ f x. h.1 f (fails_there ms op k kind v f e g x))
 
 value_told_by : (ms : Members) (op k : List ℕ) (kind : Option Kind) (v : Option Data) → kind_of op k ≡ kind → get_member k ms ≡ v →
     Told ms op k (option_and_then (λ kind. option_and_then (λ d. option_map (failed k kind) (fault_of kind d)) v) kind)
@@ -119,7 +120,7 @@ value_told ms op k = value_told_by ms op k (kind_of op k) (get_member k ms) refl
 
 abbrev ToldOf : Members → List ℕ → List (List ℕ) → Option Explanation → Type 0
 ToldOf ms op ks None = AllKeys ks (λ k. (f : Fault) → FailsAt ms op k f → ⊥)
-ToldOf ms op ks (Some x) = ((k : List ℕ) × FailsAt ms op k x.fault) × AtField (object ms) x.field x.rule x.fault × AllKeys ks (IsAbove ms op x.fault)
+ToldOf ms op ks (Some x) = ((k : List ℕ) × FailsAt ms op k x.fault) × AtOwn (object ms) x × AllKeys ks (IsAbove ms op x.fault)
 
 no_above : (ms : Members) (op : List ℕ) (ks : List (List ℕ)) (g : Fault) → AllKeys ks (λ k. (f : Fault) → FailsAt ms op k f → ⊥) → AllKeys ks (IsAbove ms op g)
 no_above ms op [] g h = tt
@@ -253,7 +254,7 @@ formless_whole ms op s e = not_whole_by ms op s (λ ks c h.
 
 abbrev CountTold : Members → Option Explanation → Type 0
 CountTold ms None = IsMiscounted (object ms) → ⊥
-CountTold ms (Some x) = IsMiscounted (object ms) × (x.fault ≡ bad_request) × AtField (object ms) x.field x.rule x.fault
+CountTold ms (Some x) = IsMiscounted (object ms) × (x.fault ≡ bad_request) × AtOwn (object ms) x
 
 rectangle_is : (k r : RectangleLiteral) → rectangle k ≡ rectangle r → k ≡ r
 rectangle_is k r e = cc
@@ -320,7 +321,7 @@ module _ (ms : Members) where
                   integral = v.2;
                   differ = λ same. true_false (sym (eq-eqb (length vs) (length (indices ranges)) same) ∙ k);
                 } in
-                (m, refl, (refl, m))
+                (m, refl, (refl, (refl, m)))
           ] refl
 
       on_told : (r : Result (List Range) Refusal) → domain_within l ≡ r → CountTold ms (counted_on vs r)
@@ -346,28 +347,31 @@ count_told ms op s = elim (bytes_eq op (codes "put")) as
       | false ↦ λ e. uncounted_op ms op s e
     ] refl
 
--- ---- an object
+-- ---- an object itself
 
-bad : (d : Data) → (IsWhole d → ⊥) → IsLeastFault d bad_request
+-- nothing is wrong with it, or what is told is the least that is
+abbrev TellsOwn : Data → Option Explanation → Type 0
+TellsOwn d None = NoFault d
+TellsOwn d (Some x) = IsLeastOwn d x.fault × AtOwn d x
+
+bad : (d : Data) → (IsWhole d → ⊥) → IsLeastOwn d bad_request
 bad d w = (not_whole refl w, λ g x. least_code g)
 
 module _ (ms : Members) (op : List ℕ) (s : NamesOp ms op) where
-  member_is : (f : Fault) → (k : List ℕ) × FailsAt ms op k f → IsFault (object ms) f
+  member_is : (f : Fault) → (k : List ℕ) × FailsAt ms op k f → IsOwnFault (object ms) f
   member_is f (k, x) = member_fault ms op k x.0 x.1 f s x.2 x.3 x.4
 
-  miscount_least : (y : Explanation) → CountTold ms (Some y) → IsLeastFault (object ms) y.fault
+  miscount_least : (y : Explanation) → CountTold ms (Some y) → IsLeastOwn (object ms) y.fault
   miscount_least y (m, is, at) = (of_count is m, λ g x. let one : code y.fault ≡ 1 = ap code is in let l = least_code g in omega (arith, one, l))
 
   whole_told : (ks : List (List ℕ)) → Contains forms (op, ks) → HasKeys ms (codes "op" ∷ ks) → (values count : Option Explanation) → ToldOf ms op ks values →
-      CountTold ms count → Tells (object ms) (least_of values count)
-  whole_told ks c h None None t n =
-      let r = faultless_read (object ms) (all_faults ms op ks (λ f. ⊥) s c h t n) in
-      (r.0, request_found (object ms) r.0 r.1)
+      CountTold ms count → TellsOwn (object ms) (least_of values count)
+  whole_told ks c h None None t n = all_faults ms op ks (λ f. ⊥) s c h t n
   whole_told ks c h None (Some y) t n = (miscount_least y n, n.2)
   whole_told ks c h (Some x) None t n =
       ((member_is x.fault t.0, all_faults ms op ks (λ g. code x.fault ≤ code g) s c h t.2 (λ m. absurd (n m))), t.1)
   whole_told ks c h (Some x) (Some y) t n = elim (nat_lt (code y.fault) (code x.fault)) as
-      (λ b. nat_lt (code y.fault) (code x.fault) ≡ b → Tells (object ms) (if b then Some y else Some x)) [
+      (λ b. nat_lt (code y.fault) (code x.fault) ≡ b → TellsOwn (object ms) (if b then Some y else Some x)) [
         | true ↦ λ e. (miscount_least y n, n.2)
         | false ↦ λ e.
             let l = not_less (code y.fault) (code x.fault) e in let one : code y.fault ≡ 1 = ap code n.1 in
@@ -375,15 +379,15 @@ module _ (ms : Members) (op : List ℕ) (s : NamesOp ms op) where
       ] refl
 
   formless_told : (fs : List (List (List ℕ))) (first : List (List ℕ)) → forms_of op forms ≡ fs → Contains forms (op, first) → (IsWhole (object ms) → ⊥) →
-      (foreign missing : Option (List ℕ)) → foreign_in fs ms ≡ foreign → missing_in fs ms first ≡ missing → Tells (object ms) (Some (formless_by foreign missing))
+      (foreign missing : Option (List ℕ)) → foreign_in fs ms ≡ foreign → missing_in fs ms first ≡ missing → TellsOwn (object ms) (Some (formless_by foreign missing))
   formless_told fs first is c w (Some key) missing f m =
-      (bad (object ms) w, foreign_told ms op key first s c (ap (λ (gs : List (List (List ℕ))). foreign_in gs ms) is ∙ f))
+      (bad (object ms) w, (refl, foreign_told ms op key first s c (ap (λ (gs : List (List (List ℕ))). foreign_in gs ms) is ∙ f)))
   formless_told fs first is c w None (Some key) f m =
-      (bad (object ms) w, missing_told ms op key first first s c (ap (λ (gs : List (List (List ℕ))). missing_in gs ms first) is ∙ m))
-  formless_told fs first is c w None None f m = (bad (object ms) w, w)
+      (bad (object ms) w, (refl, missing_told ms op key first first s c (ap (λ (gs : List (List (List ℕ))). missing_in gs ms first) is ∙ m)))
+  formless_told fs first is c w None None f m = (bad (object ms) w, (refl, w))
 
   formed_told : (first : List (List ℕ)) (more : List (List (List ℕ))) → forms_of op forms ≡ first ∷ more → (o : Option (List (List ℕ))) →
-      form_in ms (forms_of op forms) ≡ o → Tells (object ms) (formed ms op o (formless ms first more))
+      form_in ms (forms_of op forms) ≡ o → TellsOwn (object ms) (formed ms op o (formless ms first more))
   formed_told first more is None e = formless_told (first ∷ more) first is (form_there op first more forms is) (formless_whole ms op s e)
       (foreign_in (first ∷ more) ms) (missing_in (first ∷ more) ms first) refl refl
   formed_told first more is (Some ks) e =
@@ -399,8 +403,8 @@ module _ (ms : Members) (op : List ℕ) (s : NamesOp ms op) where
       text_same : (a b : List ℕ) → string a ≡ string b → a ≡ b
       text_same a b f = cc
 
-  op_told : (fs : List (List (List ℕ))) → forms_of op forms ≡ fs → Tells (object ms) (op_explained ms op fs)
-  op_told [] e = (bad (object ms) (formless_whole ms op s (ap (form_in ms) e)), (refl, none_named e))
+  op_told : (fs : List (List (List ℕ))) → forms_of op forms ≡ fs → TellsOwn (object ms) (op_explained ms op fs)
+  op_told [] e = (bad (object ms) (formless_whole ms op s (ap (form_in ms) e)), (refl, (refl, none_named e)))
   op_told (f ∷ fs) e = formed_told f fs e (form_in ms (f ∷ fs)) (ap (form_in ms) e)
 
 no_op : (ms : Members) → option_and_then as_str (get_member (codes "op") ms) ≡ None → NamesNone (object ms)
@@ -408,12 +412,196 @@ no_op ms e other op keys same t c =
     let g = subst (λ ms. NamesOp ms op) (sym (members_same ms other same)) t in
     no_some op (sym e ∙ ap (option_and_then as_str) g)
 
+-- ---- a command within a transaction
+
+-- nothing is wrong with it as a command, or what is told is the least that is
+abbrev TellsCommand : Data → Option Explanation → Type 0
+TellsCommand d None = (f : Fault) → IsCommandFault d f → ⊥
+TellsCommand d (Some x) = IsLeastOf (IsCommandFault d) x.fault × AtOwn d x
+
+no_command_told : (d : Data) → (NamesCommand d → ⊥) → TellsCommand d (Some (of_field (codes "op") names_command))
+no_command_told d other = ((no_command refl other, λ g x. least_code g), (refl, (refl, other)))
+
+own_told : (d : Data) → NamesCommand d → (o : Option Explanation) → TellsOwn d o → TellsCommand d o
+own_told d named None t = none
+  where
+    none : (f : Fault) → IsCommandFault d f → ⊥
+    none f (no_command e other) = other named
+    none f (of_own_command x) = t f x
+own_told d named (Some x) t = ((of_own_command t.0.0, above), t.1)
+  where
+    above : (g : Fault) → IsCommandFault d g → code x.fault ≤ code g
+    above g (no_command e other) = absurd (other named)
+    above g (of_own_command y) = t.0.1 g y
+
+command_named_told : (ms : Members) (o : Option (List ℕ)) → option_and_then as_str (get_member (codes "op") ms) ≡ o → TellsCommand (object ms) (command_named ms o)
+command_named_told ms None e = no_command_told (object ms) (λ n.
+    no_some n.1 (sym e ∙ ap (option_and_then as_str) (subst (λ ns. NamesOp ns n.1) (sym (members_same ms n.0 n.2)) n.3)))
+command_named_told ms (Some op) e =
+    let s : NamesOp ms op = some_text (get_member (codes "op") ms) op e in
+    elim (is_among command_ops op) as (λ b. is_among command_ops op ≡ b →
+    TellsCommand (object ms) (if b then op_explained ms op (forms_of op forms) else Some (of_field (codes "op") names_command))) [
+      | true ↦ λ f. own_told (object ms) (named ms op s f) (op_explained ms op (forms_of op forms)) (op_told ms op s (forms_of op forms) refl)
+      | false ↦ λ f. no_command_told (object ms) (λ n.
+          let same = one_op ms n.0 op n.1 n.2 s n.3 in
+          true_false (sym (ap (is_among command_ops) same ∙ contains_among command_ops n.1 n.4) ∙ f))
+    ] refl
+
+other_command_told : (d : Data) → ((ms : Members) → d ≡ object ms → ⊥) → TellsCommand d (Some (of_whole is_object))
+other_command_told d h = ((no_command refl (λ n. h n.0 n.2), λ g x. least_code g), (refl, h))
+
+command_told : (d : Data) → TellsCommand d (command_explained d)
+command_told (object ms) = command_named_told ms (option_and_then as_str (get_member (codes "op") ms)) refl
+command_told null = other_command_told null (λ ms e. cc)
+command_told (boolean b) = other_command_told (boolean b) (λ ms e. cc)
+command_told (json_number n) = other_command_told (json_number n) (λ ms e. cc)
+command_told (string t) = other_command_told (string t) (λ ms e. cc)
+command_told (array ds) = other_command_told (array ds) (λ ms e. cc)
+
+-- ---- several, of which the first has a place
+
+abbrev TellsWithin : ℕ → Items → Option Explanation → Type 0
+TellsWithin k ds None = (f : Fault) → WithinFault ds f → ⊥
+TellsWithin k ds (Some x) =
+    IsLeastOf (WithinFault ds) x.fault × ((j : ℕ) × (v : Data) × (x.at ≡ Some (k + j)) × (get_item j ds ≡ Some v) × AtField v x.field x.rule x.fault)
+
+module _ (k : ℕ) (d : Data) (ds : Items) where
+  by_item : (P : Fault → Type 0) → ((f : Fault) → IsCommandFault d f → P f) → ((f : Fault) → WithinFault ds f → P f) → (f : Fault) →
+      (j : ℕ) (v : Data) → get_item j (item d ds) ≡ Some v → IsCommandFault v f → P f
+  by_item P here there f zero v g c = here f (subst (λ v. IsCommandFault v f) (sym (some_same d v g)) c)
+  by_item P here there f (suc j) v g c = there f (j, v, g, c)
+
+  within_item : (P : Fault → Type 0) → ((f : Fault) → IsCommandFault d f → P f) → ((f : Fault) → WithinFault ds f → P f) → (f : Fault) →
+      WithinFault (item d ds) f → P f
+  within_item P here there f w = by_item P here there f w.0 w.1 w.2 w.3
+
+  first_told : (x : Explanation) → TellsCommand d (Some x) → ((f : Fault) → WithinFault ds f → code x.fault ≤ code f) →
+      TellsWithin k (item d ds) (Some (at_place k x))
+  first_told x h above = (
+    ((zero, d, refl, h.0.0), within_item (λ f. code x.fault ≤ code f) h.0.1 above),
+    (zero, d, ap Some (omega arith), refl, h.1.1),
+  )
+
+  later_told : (y : Explanation) → TellsWithin (suc k) ds (Some y) → ((f : Fault) → IsCommandFault d f → code y.fault ≤ code f) →
+      TellsWithin k (item d ds) (Some y)
+  later_told y t above = (
+    ((suc t.0.0.0, t.0.0.1, t.0.0.2, t.0.0.3), within_item (λ f. code y.fault ≤ code f) above t.0.1),
+    (suc t.1.0, t.1.1, t.1.2 ∙ ap Some (omega arith), t.1.3, t.1.4),
+  )
+
+  join_within : (one more : Option Explanation) → TellsCommand d one → TellsWithin (suc k) ds more → TellsWithin k (item d ds) (least_of (option_map (at_place k) one) more)
+  join_within None None h t = within_item (λ f. ⊥) h t
+  join_within None (Some y) h t = later_told y t (λ f c. absurd (h f c))
+  join_within (Some x) None h t = first_told x h (λ f w. absurd (t f w))
+  join_within (Some x) (Some y) h t = elim (nat_lt (code y.fault) (code x.fault)) as
+      (λ b. nat_lt (code y.fault) (code x.fault) ≡ b → TellsWithin k (item d ds) (if b then Some y else Some (at_place k x))) [
+        | true ↦ λ e. let l = ltb-true (code y.fault) (code x.fault) e in later_told y t (λ f c. let m = h.0.1 f c in omega (arith, l, m))
+        | false ↦ λ e. let l = not_less (code y.fault) (code x.fault) e in first_told x h (λ f w. let m = t.0.1 f w in omega (arith, l, m))
+      ] refl
+
+within_told : (k : ℕ) (ds : Items) → TellsWithin k ds (commands_explained k ds)
+within_told k no_items = λ f w. no_some w.1 w.2
+within_told k (item d ds) = join_within k d ds (command_explained d) (commands_explained (suc k) ds) (command_told d) (within_told (suc k) ds)
+
+-- ---- an object with what is within it
+
+faultless_told : (d : Data) → ((f : Fault) → IsFault d f → ⊥) → Tells d None
+faultless_told d none = let r = faultless_read d none in (r.0, request_found d r.0 r.1)
+
+fault_by : (d : Data) (P : Type 0) (f : Fault) → (IsOwnFault d f → P) → (EditFails d f → P) → IsFault d f → P
+fault_by d P f own edit (of_own x) = own x
+fault_by d P f own edit (of_edit x) = edit x
+
+-- something is wrong with the object itself, and nothing else has a lower code
+own_first_told : (d : Data) (x : Explanation) → TellsOwn d (Some x) → ((f : Fault) → EditFails d f → code x.fault ≤ code f) → Tells d (Some x)
+own_first_told d x t above = (
+  (of_own t.0.0, λ f. fault_by d (code x.fault ≤ code f) f (t.0.1 f) (above f)),
+  subst (λ a. AtPlaceOr d a x.field x.rule x.fault) (sym t.1.0) t.1.1,
+)
+
+module _ (ms : Members) (none : NoFault (object ms)) where
+  none_told : ((f : Fault) → EditFails (object ms) f → ⊥) → Tells (object ms) None
+  none_told edit = faultless_told (object ms) (λ f. fault_by (object ms) ⊥ f (none f) (edit f))
+
+  module _ (s : NamesOp ms (codes "transaction")) where
+    items_same : (a b : Items) → array a ≡ array b → a ≡ b
+    items_same a b e = cc
+
+    -- one of these values is what is wrong
+    in_listed : (ds : Items) → get_member (codes "edits") ms ≡ Some (array ds) → (f : Fault) → EditFails (object ms) f → WithinFault ds f
+    in_listed ds at f x =
+        let here : get_member (codes "edits") ms ≡ Some (array x.listed) =
+        subst (λ ns. get_member (codes "edits") ns ≡ Some (array x.listed)) (sym (members_same ms x.members x.is_object)) x.is_edits in
+        let same : x.listed ≡ ds = items_same x.listed ds (some_same (array x.listed) (array ds) (sym here ∙ at)) in
+        (x.place, x.value, subst (λ es. get_item x.place es ≡ Some x.value) same x.is_value, x.fails)
+
+    as_edit : (ds : Items) → get_member (codes "edits") ms ≡ Some (array ds) → (f : Fault) → WithinFault ds f → EditFails (object ms) f
+    as_edit ds at f w = record {
+      members = ms;
+      listed = ds;
+      place = w.0;
+      value = w.1;
+      is_object = refl;
+      names_op = s;
+      is_edits = at;
+      is_value = w.2;
+      fails = w.3;
+    }
+
+    array_told : (ds : Items) → get_member (codes "edits") ms ≡ Some (array ds) → (o : Option Explanation) → TellsWithin 0 ds o → Tells (object ms) o
+    array_told ds at None t = none_told (λ f x. t f (in_listed ds at f x))
+    array_told ds at (Some x) t =
+        let place_is : x.at ≡ Some t.1.0 = t.1.2 ∙ ap Some (omega arith) in (
+          (of_edit (as_edit ds at x.fault t.0.0), λ f. fault_by (object ms) (code x.fault ≤ code f) f (λ y. absurd (none f y)) (λ y. t.0.1 f (in_listed ds at f y))),
+          subst (λ a. AtPlaceOr (object ms) a x.field x.rule x.fault) (sym place_is)
+              (record { members = ms; listed = ds; value = t.1.1; object_is = refl; op_is = s; edits_are = at; value_is = t.1.3; told = t.1.4 }),
+        )
+
+    no_listed : (o : Option Data) → get_member (codes "edits") ms ≡ o → ((ds : Items) → o ≡ Some (array ds) → ⊥) → Tells (object ms) None
+    no_listed o e other = none_told (λ f x. other x.listed (sym e ∙
+        subst (λ ns. get_member (codes "edits") ns ≡ Some (array x.listed)) (sym (members_same ms x.members x.is_object)) x.is_edits))
+
+    listed_told : (o : Option Data) → get_member (codes "edits") ms ≡ o → Tells (object ms) (listed_explained o)
+    listed_told (Some (array ds)) e = array_told ds e (commands_explained 0 ds) (within_told 0 ds)
+    listed_told (Some null) e = no_listed (Some null) e (λ ds f. cc)
+    listed_told (Some (boolean b)) e = no_listed (Some (boolean b)) e (λ ds f. cc)
+    listed_told (Some (json_number n)) e = no_listed (Some (json_number n)) e (λ ds f. cc)
+    listed_told (Some (string t)) e = no_listed (Some (string t)) e (λ ds f. cc)
+    listed_told (Some (object ns)) e = no_listed (Some (object ns)) e (λ ds f. cc)
+    listed_told None e = no_listed None e (λ ds f. cc)
+
+  edits_told : (op : List ℕ) → NamesOp ms op → Tells (object ms) (edits_explained op ms)
+  edits_told op s = elim (bytes_eq op (codes "transaction")) as (λ b. bytes_eq op (codes "transaction") ≡ b →
+      Tells (object ms) (if b then listed_explained (get_member (codes "edits") ms) else None)) [
+        | true ↦ λ e. listed_told (subst (NamesOp ms) (equal_key op (codes "transaction") e) s) (get_member (codes "edits") ms) refl
+        | false ↦ λ e. none_told (no_edits ms op s e)
+      ] refl
+
+-- what is wrong with the object of an op itself has no greater code than what is wrong with its commands
+own_above : (ms : Members) (op : List ℕ) → NamesOp ms op → (x : Explanation) → IsLeastOwn (object ms) x.fault → (f : Fault) → EditFails (object ms) f →
+    code x.fault ≤ code f
+own_above ms op s x least f y = elim (bytes_eq op (codes "transaction")) as (λ b. bytes_eq op (codes "transaction") ≡ b → code x.fault ≤ code f) [
+  | true ↦ λ e.
+      let g = own_first ms (subst (NamesOp ms) (equal_key op (codes "transaction") e) s) x.fault least.0 in
+      let l = least.1 g.0 g.1 in let m = g.2 in let low = least_code f in
+      omega (arith, l, m, low)
+  | false ↦ λ e. absurd (no_edits ms op s e f y)
+] refl
+
+before_told : (ms : Members) (op : List ℕ) → NamesOp ms op → (o : Option Explanation) → TellsOwn (object ms) o → Tells (object ms) (before_edits o (edits_explained op ms))
+before_told ms op s None t = edits_told ms t op s
+before_told ms op s (Some x) t = own_first_told (object ms) x t (own_above ms op s x t.0)
+
 named_told : (ms : Members) (o : Option (List ℕ)) → option_and_then as_str (get_member (codes "op") ms) ≡ o → Tells (object ms) (op_named ms o)
-named_told ms None e = (bad (object ms) (λ w. no_op ms e w.0 w.1 w.2 w.3 w.4 w.5), (refl, no_op ms e))
-named_told ms (Some op) e = op_told ms op (some_text (get_member (codes "op") ms) op e) (forms_of op forms) refl
+named_told ms None e = own_first_told (object ms) (of_field (codes "op") names_op)
+    (bad (object ms) (λ w. no_op ms e w.0 w.1 w.2 w.3 w.4 w.5), (refl, (refl, no_op ms e)))
+    (λ f x. least_code f)
+named_told ms (Some op) e =
+    let s : NamesOp ms op = some_text (get_member (codes "op") ms) op e in
+    before_told ms op s (op_explained ms op (forms_of op forms)) (op_told ms op s (forms_of op forms) refl)
 
 other_told : (d : Data) → ((ms : Members) → d ≡ object ms → ⊥) → Tells d (Some (of_whole is_object))
-other_told d h = (bad d (λ w. h w.0 w.3), h)
+other_told d h = own_first_told d (of_whole is_object) (bad d (λ w. h w.0 w.3), (refl, h)) (λ f x. least_code f)
 
 pub tells_the_least : TellsTheLeast
 tells_the_least (object ms) = named_told ms (option_and_then as_str (get_member (codes "op") ms)) refl

@@ -1,9 +1,9 @@
 -- Each kind of member: what is wrong with its value is what its reader answers.
-use Rattle.std.proofs.Common.{◌≡◌, ◌⊎◌, inl, inr, ℕ, ℤ, Bool, true, false, List, [], ◌∷◌, codes, Option, Some, None, option_and_then, Result, Ok, Err, refl}
+use Rattle.std.proofs.Common.{◌≡◌, ◌≤◌, ◌⊎◌, inl, inr, ℕ, ℤ, Bool, true, false, List, [], ◌∷◌, codes, Option, Some, None, option_and_then, Result, Ok, Err, refl}
 use Rattle.std.proofs.Common.{sym, ap, ◌∙◌, if◌then◌else◌, eqb-true}
 use Rattle.std.specs.Prelude.{bytes_eq}
 use Rattle.std.specs.Option.{ok_or}
-use Rattle.serde_json.specs.Data.{Data, null, boolean, number as json_number, string, array, object}
+use Rattle.serde_json.specs.Data.{Data, null, boolean, number as json_number, string, array, object, Items}
 use Rattle.serde_json.specs.Find.{as_number, as_str, as_i64, as_u64}
 use Rattle.wb_dist.specs.Maps.{LayoutMap}
 use Rattle.wb_cells.specs.Cells.{Name}
@@ -29,13 +29,16 @@ use Rattle.wb_literals.specs.declared.limits.limit.LimitErr.{LimitErr}
 use Rattle.wb_literals.specs.declared.limits.limit.LimitErr.TheVariants.{TooLarge, BadMapping}
 use Rattle.wb_reshape.specs.declared.operand.Operand.{Operand}
 use Rattle.wb_reshape.specs.declared.operand.Operand.TheVariants.{Named}
-use Rattle.wb_protocol.specs.Fields.{◌>>=◌, name_of, key_type_of, operation_of, reduction_of, integers_of, index_of}
+use Rattle.wb_protocol.specs.Fields.{◌>>=◌, name_of, key_type_of, operation_of, reduction_of, integers_of, index_of, note_in, several_of}
+use Rattle.wb_edit.specs.Transactions.{is_note}
+use Rattle.serde_json.specs.Events.{items_len}
 use Rattle.wb_protocol.specs.Literals.{literal_domain, literal_mapping, text_of_book, refusal_of_limit, within, domain_within, mapping_within}
 use Rattle.wb_protocol.specs.Sources.{is_braced, given_within, given_literal, given_name, given_text, given_by, point_in, offsets_by}
 use Rattle.wb_text.specs.Texts.Books.{is_book_text}
 use Rattle.wb_protocol.specs.Wire.Faults.{Fault, bad_request, bad_literal, too_large, bad_mapping, refusal_of, Plain, Kind, plain, IsBraced, IsBad, Fails}
 use Rattle.wb_protocol.specs.Wire.Faults as kinds
-use Rattle.wb_protocol.proofs.OnTheWire.Values.{no_ok, some_of_ok, text_in, text_read, str_found, name_found, name_read, type_found, type_read, operation_found}
+use Rattle.wb_protocol.proofs.OnTheWire.Several.{several_is, several_holds, several_told, several_found}
+use Rattle.wb_protocol.proofs.OnTheWire.Values.{step, some_same, chosen, no_ok, some_of_ok, text_in, text_read, str_found, name_found, name_read, type_found, type_read, operation_found}
 use Rattle.wb_protocol.proofs.OnTheWire.Values.{operation_read, reduction_found, reduction_read, integer_in, integer_found, integer_read, number_in, natural_found}
 use Rattle.wb_protocol.proofs.OnTheWire.Values.{natural_read, index_in, index_found, index_read, integers_in, integers_found_of, integers_read}
 use Rattle.wb_protocol.proofs.OnTheWire.Spellings.{domain_found, domain_read, literal_read, offsets_found, offsets_read}
@@ -183,6 +186,40 @@ text_reader = plain_reader kinds.any_text text_in refl (λ v why e. text_only v 
 pub offsets_reader : IsReader (plain kinds.offsets) offsets_in
 offsets_reader = plain_reader kinds.offsets offsets_in refl (λ v why e. or_only (option_and_then point_in (index_of v)) BadRequest why e)
     (λ v is e bad. bad is (offsets_found v is e)) (λ v e is s. no_ok BadRequest is (sym e ∙ offsets_read v is s))
+
+-- ---- a note, and 1 to 4,096 values
+
+abbrev pub note_text_in : Option Data → Result (List ℕ) Refusal
+note_text_in o = text_in o >>= note_in
+
+note_only : (t : List ℕ) (why : Refusal) → note_in t ≡ Err why → why ≡ BadRequest
+note_only t why e = if_only (is_note t) t (Err BadRequest) why e (λ f. sym (err_same BadRequest why f))
+
+note_spelled : (v : Data) (n : List ℕ) → note_text_in (Some v) ≡ Ok n → (v ≡ string n) × (is_note n ≡ true)
+note_spelled v n e =
+    let t = step (text_in (Some v)) note_in n e in
+    let k = chosen (is_note t.0) t.0 n t.2 in
+    (text_is v t.0 t.1 ∙ ap string k.1, ap is_note (sym k.1) ∙ k.0)
+
+note_told : (v : Data) (n : List ℕ) → (v ≡ string n) × (is_note n ≡ true) → note_text_in (Some v) ≡ Ok n
+note_told v n s = rw (s.0, s.1) refl
+
+pub note_reader : IsReader (plain kinds.note) note_text_in
+note_reader = plain_reader kinds.note note_text_in refl (λ v why e. then_only (text_in (Some v)) note_in why e (text_only v why) (λ t. note_only t why))
+    (λ v n e bad. bad n (note_spelled v n e)) (λ v e n s. no_ok BadRequest n (sym e ∙ note_told v n s))
+
+abbrev pub several_in : Option Data → Result Items Refusal
+several_in o = ok_or (option_and_then several_of o) BadRequest
+
+several_spelled : (v : Data) (ds : Items) → several_in (Some v) ≡ Ok ds → IsBad (plain kinds.several) v → ⊥
+several_spelled v ds e bad =
+    let x = several_found (Some v) ds e in
+    bad ds (some_same v (array ds) x.0) (several_holds (items_len ds) x.1)
+
+pub several_reader : IsReader (plain kinds.several) several_in
+several_reader = plain_reader kinds.several several_in refl (λ v why e. or_only (several_of v) BadRequest why e)
+    several_spelled (λ v e ds s few. no_ok BadRequest ds (sym e ∙
+    ap (λ o. ok_or o BadRequest) (several_told v ds s (several_is (items_len ds) few.0 few.1))))
 
 -- ---- literals
 

@@ -1,20 +1,26 @@
 -- What is read as a request is that request.
-use Rattle.std.proofs.Common.{◌≡◌, ◌+◌, ℕ, ℤ, true, false, List, [], ◌∷◌, codes, length, Option, Some, None, Result, Ok, Err, refl, sym, ap, ◌∙◌, subst, nat_eq}
-use Rattle.std.proofs.Common.{if◌then◌else◌, arith, eqb-true}
+use Rattle.std.proofs.Common.{◌≡◌, ◌≤◌, ◌+◌, ◌&&◌, ℕ, ℤ, true, false, List, [], ◌∷◌, ◌++◌, codes, length, Option, Some, None, Result, Ok, Err, refl, sym, ap, ◌∙◌, subst, nat_eq}
+use Rattle.std.proofs.Common.{if◌then◌else◌, arith, eqb-true, option_map}
+use Rattle.std.proofs.lemmas.List.{append-nil, append_assoc}
 use Rattle.std.specs.Prelude.{bytes_eq}
 use Rattle.std.specs.Option.{option_map_or}
 use Rattle.std.proofs.lemmas.Slice.Eq.{bytes_eq-Decides}
-use Rattle.serde_json.specs.Data.{Data, null, boolean, number as json_number, string, array, object, Members}
-use Rattle.serde_json.specs.Find.{get_member}
+use Rattle.serde_json.specs.Data.{Data, null, boolean, number as json_number, string, array, object, Items, no_items, item, Members}
+use Rattle.serde_json.specs.Events.{items_len}
+use Rattle.serde_json.specs.Find.{get, get_member, as_str}
 use Rattle.wb_cells.specs.Cells.{Name}
 use Rattle.wb_cells.specs.declared.values.index.Index.TheVariants.{Point}
 use Rattle.wb_cells.specs.Shapes.{indices}
 use Rattle.wb_edit.specs.declared.asked_numbers.AskedNumbers.TheVariants.{Rectangle as numbered, Indices as not_numbered}
 use Rattle.wb_edit.specs.declared.asked_rectangle.AskedRectangle.TheVariants.{Ranges, Indices}
-use Rattle.wb_edit.specs.declared.edit.Edit.TheVariants.{Domain, Remap, Reshape, Sparse, Assoc}
-use Rattle.wb_edit.specs.declared.edit.Edit.TheVariants.{DropDomain, Add, Remove, Array, Set, Irv, Copy}
-use Rattle.wb_edit.specs.declared.edit.Edit.TheVariants.{Fill, Put, FillAll, DropArray, All, Load}
-use Rattle.wb_history.specs.declared.query.Query.TheVariants.{Get, Size, Where, Piece, Reduce, State}
+use Rattle.wb_edit.specs.declared.command.Command.TheVariants.{Domain, Remap, Reshape, Sparse, Assoc}
+use Rattle.wb_edit.specs.declared.command.Command.TheVariants.{DropDomain, Add, Remove, Array, Set, Irv, Copy}
+use Rattle.wb_edit.specs.declared.command.Command.TheVariants.{Fill, Put, FillAll, DropArray, All}
+use Rattle.wb_edit.specs.declared.edit.Edit.TheVariants.{Load}
+use Rattle.wb_edit.specs.declared.command.Command.{Command}
+use Rattle.wb_edit.specs.declared.edit.Edit.TheVariants.{Command as OneCommand, Transaction}
+use Rattle.wb_edit.specs.Transactions.{AreSeveral, is_note}
+use Rattle.wb_history.specs.declared.query.Query.TheVariants.{Get, Size, Where, Piece, Reduce, State, Note}
 use Rattle.wb_log.specs.declared.refusal.Refusal.{Refusal}
 use Rattle.wb_log.specs.declared.refusal.Refusal.TheVariants.{BadRequest}
 use Rattle.wb_literals.specs.Domain as literals
@@ -30,20 +36,24 @@ use Rattle.wb_reshape.specs.declared.new_indices.NewIndices.{NewIndices}
 use Rattle.wb_reshape.specs.declared.new_indices.NewIndices.TheVariants.{To, Slice, Displace, Combine}
 use Rattle.wb_protocol.specs.Fields.{◌>>=◌, member_count, has_fields, has_fields_and, text_field, optional_text, text_if_there, name_field, index_field, i64_field}
 use Rattle.wb_protocol.specs.Fields.{integers_field, u64_field, key_type_field, operation_field, reduction_field}
+use Rattle.wb_protocol.specs.Fields.{note_in, note_if_there, optional_note, several_field, is_among}
 use Rattle.wb_protocol.specs.Literals.{literal_domain, literal_mapping, optional_mapping as mapping_if_there, text_of_book, domain_within, mapping_within}
 use Rattle.wb_protocol.specs.Sources.{given_by, offsets_by, to_by, slice_by, displace_by, combine_by, combination_of, source_of}
-use Rattle.wb_protocol.specs.Requests.{domain_with, domain_by, domain_of, remap_of, reshape_of, fill_over, fill_of, put_on, put_over, put_of, load_of}
-use Rattle.wb_protocol.specs.Requests.{undo_by_number, undo_of, print_of, history_from, history_of, edits_of, explain_of, by_op, request_of, array_of, drop_array_of, set_of, fill_all_of, copy_of}
+use Rattle.wb_protocol.specs.Requests.{of_command, domain_with, domain_by, domain_of, remap_of, reshape_of, fill_over, fill_of, put_on, put_over, put_of, load_of}
+use Rattle.wb_protocol.specs.Requests.{undo_by_number, undo_of, print_of, history_from, history_of, edits_of, explain_of, by_single_op, as_command, command_by, command_of, lesser_refusal, one_more, commands_after, transaction_of, by_op, request_of, array_of, drop_array_of, set_of, fill_all_of, copy_of}
 use Rattle.wb_protocol.specs.Requests.{irv_of, all_of, sparse_of, assoc_of, add_of, remove_of, drop_domain_of, redo_of, cascade_of, dependents_of, get_of, where_of, size_of, piece_of}
-use Rattle.wb_protocol.specs.Requests.{reduce_of, state_of}
+use Rattle.wb_protocol.specs.Requests.{reduce_of, state_of, note_of}
 use Rattle.wb_protocol.specs.declared.requests.request.Request.{Request}
 use Rattle.wb_protocol.specs.declared.requests.request.Request.TheVariants.{Change, Undo, Redo, Cascade, Dependents, Ask, Print, History, Edits, Explain}
-use Rattle.wb_protocol.specs.Wire.Table.{Meaning, word, name, integer, index, given, mapping, optional_mapping, book, numbers, some_set, some_numbers}
-use Rattle.wb_protocol.specs.Wire.Table.{Fields, op, table}
-use Rattle.wb_protocol.specs.Wire.Spelled.{IsIntegers, IsIndex, IsOperand, Says, HasFields, IsRequest}
+use Rattle.wb_protocol.specs.Wire.Table.{Meaning, word, name, integer, index, given, mapping, optional_mapping, book, numbers, some_set, some_numbers, note, edits}
+use Rattle.wb_protocol.specs.Wire.Table.{Fields, op, command_ops, table}
+use Rattle.wb_protocol.specs.Wire.Spelled.{IsIntegers, IsIndex, IsOperand, Says, HasFields, IsCommand, AreCommands, IsRequest}
+use Rattle.wb_protocol.proofs.OnTheWire.Parts.{within_several}
+use Rattle.wb_protocol.proofs.OnTheWire.Read.{as_many}
+use Rattle.wb_protocol.proofs.OnTheWire.Several.{several_found, several_holds}
 use Rattle.wb_protocol.proofs.OnTheWire.Members.{are_apart, is_needed, are_needed, AllSay, there, is_there, exactly, has_fields as has_fields_of}
 use Rattle.wb_protocol.proofs.OnTheWire.Values.{step, ok_same, no_ok, text_found, says_text, valued, word_found, name_found, index_found, integer_found, natural_found}
-use Rattle.wb_protocol.proofs.OnTheWire.Values.{chosen, type_found, operation_found, reduction_found, integers_found}
+use Rattle.wb_protocol.proofs.OnTheWire.Values.{some_of_ok, some_same, no_some, str_found, mapped, chosen, type_found, operation_found, reduction_found, integers_found}
 use Rattle.wb_protocol.proofs.OnTheWire.Spellings.{count_found, domain_found, rectangle_found, given_found, offsets_found, mapping_found, book_found, optional_found}
 use Rattle.wb_protocol.proofs.OnTheWire.Spellings.{optional_count}
 use Rattle.wb_protocol.proofs.OnTheWire.Steps.{one, two, two_of, three, five}
@@ -60,50 +70,50 @@ as_table ms q r e h k n a = subst (λ r. HasFields ms (table r)) (ok_same q r e)
 sparse_found : IsFound (codes "sparse") sparse_of
 sparse_found ms r s e =
     let x = two (has_fields 3 (object ms)) (name_field (codes "d") (object ms)) (name_field (codes "of") (object ms))
-    (λ d parent. Ok (Change (Sparse d parent))) r e in
-    as_table ms (Change (Sparse x.0 x.1)) r x.5 refl refl (count_found ms 3 tt x.2)
+    (λ d parent. Ok (of_command (Sparse d parent))) r e in
+    as_table ms (of_command (Sparse x.0 x.1)) r x.5 refl refl (count_found ms 3 tt x.2)
     (name_found (get_member (codes "d") ms) x.0 x.3, (name_found (get_member (codes "of") ms) x.1 x.4, (s, tt)))
 
 assoc_found : IsFound (codes "assoc") assoc_of
 assoc_found ms r s e =
     let x = two (has_fields 3 (object ms)) (name_field (codes "d") (object ms)) (key_type_field (codes "of") (object ms))
-    (λ d type. Ok (Change (Assoc d type))) r e in
-    as_table ms (Change (Assoc x.0 x.1)) r x.5 refl refl (count_found ms 3 tt x.2)
+    (λ d type. Ok (of_command (Assoc d type))) r e in
+    as_table ms (of_command (Assoc x.0 x.1)) r x.5 refl refl (count_found ms 3 tt x.2)
     (name_found (get_member (codes "d") ms) x.0 x.3, (type_found (get_member (codes "of") ms) x.1 x.4, (s, tt)))
 
 drop_domain_found : IsFound (codes "drop_domain") drop_domain_of
 drop_domain_found ms r s e =
-    let x = one (has_fields 2 (object ms)) (name_field (codes "d") (object ms)) (λ d. Ok (Change (DropDomain d))) r e in
-    as_table ms (Change (DropDomain x.0)) r x.3 refl refl (count_found ms 2 tt x.1) (name_found (get_member (codes "d") ms) x.0 x.2, (s, tt))
+    let x = one (has_fields 2 (object ms)) (name_field (codes "d") (object ms)) (λ d. Ok (of_command (DropDomain d))) r e in
+    as_table ms (of_command (DropDomain x.0)) r x.3 refl refl (count_found ms 2 tt x.1) (name_found (get_member (codes "d") ms) x.0 x.2, (s, tt))
 
 add_found : IsFound (codes "add") add_of
 add_found ms r s e =
-    let x = two (has_fields 3 (object ms)) (name_field (codes "d") (object ms)) (index_field (codes "i") (object ms)) (λ d i. Ok (Change (Add d i))) r e in
-    as_table ms (Change (Add x.0 x.1)) r x.5 refl refl (count_found ms 3 tt x.2)
+    let x = two (has_fields 3 (object ms)) (name_field (codes "d") (object ms)) (index_field (codes "i") (object ms)) (λ d i. Ok (of_command (Add d i))) r e in
+    as_table ms (of_command (Add x.0 x.1)) r x.5 refl refl (count_found ms 3 tt x.2)
     (name_found (get_member (codes "d") ms) x.0 x.3, (index_found (get_member (codes "i") ms) x.1 x.4, (s, tt)))
 
 remove_found : IsFound (codes "remove") remove_of
 remove_found ms r s e =
-    let x = two (has_fields 3 (object ms)) (name_field (codes "d") (object ms)) (index_field (codes "i") (object ms)) (λ d i. Ok (Change (Remove d i))) r e in
-    as_table ms (Change (Remove x.0 x.1)) r x.5 refl refl (count_found ms 3 tt x.2)
+    let x = two (has_fields 3 (object ms)) (name_field (codes "d") (object ms)) (index_field (codes "i") (object ms)) (λ d i. Ok (of_command (Remove d i))) r e in
+    as_table ms (of_command (Remove x.0 x.1)) r x.5 refl refl (count_found ms 3 tt x.2)
     (name_found (get_member (codes "d") ms) x.0 x.3, (index_found (get_member (codes "i") ms) x.1 x.4, (s, tt)))
 
 array_found : IsFound (codes "array") array_of
 array_found ms r s e =
-    let x = two (has_fields 3 (object ms)) (name_field (codes "a") (object ms)) (name_field (codes "d") (object ms)) (λ a d. Ok (Change (Array a d))) r e in
-    as_table ms (Change (Array x.0 x.1)) r x.5 refl refl (count_found ms 3 tt x.2)
+    let x = two (has_fields 3 (object ms)) (name_field (codes "a") (object ms)) (name_field (codes "d") (object ms)) (λ a d. Ok (of_command (Array a d))) r e in
+    as_table ms (of_command (Array x.0 x.1)) r x.5 refl refl (count_found ms 3 tt x.2)
     (name_found (get_member (codes "a") ms) x.0 x.3, (name_found (get_member (codes "d") ms) x.1 x.4, (s, tt)))
 
 drop_array_found : IsFound (codes "drop_array") drop_array_of
 drop_array_found ms r s e =
-    let x = one (has_fields 2 (object ms)) (name_field (codes "a") (object ms)) (λ a. Ok (Change (DropArray a))) r e in
-    as_table ms (Change (DropArray x.0)) r x.3 refl refl (count_found ms 2 tt x.1) (name_found (get_member (codes "a") ms) x.0 x.2, (s, tt))
+    let x = one (has_fields 2 (object ms)) (name_field (codes "a") (object ms)) (λ a. Ok (of_command (DropArray a))) r e in
+    as_table ms (of_command (DropArray x.0)) r x.3 refl refl (count_found ms 2 tt x.1) (name_found (get_member (codes "a") ms) x.0 x.2, (s, tt))
 
 set_found : IsFound (codes "set") set_of
 set_found ms r s e =
     let x = three (has_fields 4 (object ms)) (name_field (codes "a") (object ms)) (index_field (codes "i") (object ms)) (i64_field (codes "v") (object ms))
-    (λ a i v. Ok (Change (Set a i v))) r e in
-    as_table ms (Change (Set x.0 x.1 x.2)) r x.7 refl refl (count_found ms 4 tt x.3) (
+    (λ a i v. Ok (of_command (Set a i v))) r e in
+    as_table ms (of_command (Set x.0 x.1 x.2)) r x.7 refl refl (count_found ms 4 tt x.3) (
       name_found (get_member (codes "a") ms) x.0 x.4,
       (
         index_found (get_member (codes "i") ms) x.1 x.5,
@@ -113,21 +123,21 @@ set_found ms r s e =
 
 fill_all_found : IsFound (codes "fill_all") fill_all_of
 fill_all_found ms r s e =
-    let x = two (has_fields 3 (object ms)) (name_field (codes "a") (object ms)) (i64_field (codes "v") (object ms)) (λ a v. Ok (Change (FillAll a v))) r e in
-    as_table ms (Change (FillAll x.0 x.1)) r x.5 refl refl (count_found ms 3 tt x.2)
+    let x = two (has_fields 3 (object ms)) (name_field (codes "a") (object ms)) (i64_field (codes "v") (object ms)) (λ a v. Ok (of_command (FillAll a v))) r e in
+    as_table ms (of_command (FillAll x.0 x.1)) r x.5 refl refl (count_found ms 3 tt x.2)
     (name_found (get_member (codes "a") ms) x.0 x.3, (s, (integer_found (get_member (codes "v") ms) x.1 x.4, tt)))
 
 irv_found : IsFound (codes "irv") irv_of
 irv_found ms r s e =
-    let x = two (has_fields 3 (object ms)) (name_field (codes "a") (object ms)) (i64_field (codes "v") (object ms)) (λ a v. Ok (Change (Irv a v))) r e in
-    as_table ms (Change (Irv x.0 x.1)) r x.5 refl refl (count_found ms 3 tt x.2)
+    let x = two (has_fields 3 (object ms)) (name_field (codes "a") (object ms)) (i64_field (codes "v") (object ms)) (λ a v. Ok (of_command (Irv a v))) r e in
+    as_table ms (of_command (Irv x.0 x.1)) r x.5 refl refl (count_found ms 3 tt x.2)
     (name_found (get_member (codes "a") ms) x.0 x.3, (s, (integer_found (get_member (codes "v") ms) x.1 x.4, tt)))
 
 copy_found : IsFound (codes "copy") copy_of
 copy_found ms r s e =
     let x = five (has_fields 6 (object ms)) (name_field (codes "a") (object ms)) (index_field (codes "i") (object ms)) (name_field (codes "b") (object ms))
-    (index_field (codes "j") (object ms)) (i64_field (codes "c") (object ms)) (λ a i b j c. Ok (Change (Copy a i b j c))) r e in
-    as_table ms (Change (Copy x.0 x.1 x.2 x.3 x.4)) r x.11 refl refl (count_found ms 6 tt x.5) (
+    (index_field (codes "j") (object ms)) (i64_field (codes "c") (object ms)) (λ a i b j c. Ok (of_command (Copy a i b j c))) r e in
+    as_table ms (of_command (Copy x.0 x.1 x.2 x.3 x.4)) r x.11 refl refl (count_found ms 6 tt x.5) (
       name_found (get_member (codes "a") ms) x.0 x.6,
       (
         name_found (get_member (codes "b") ms) x.2 x.8,
@@ -144,8 +154,8 @@ copy_found ms r s e =
 all_found_of : IsFound (codes "all") all_of
 all_found_of ms r s e =
     let x = three (has_fields 4 (object ms)) (name_field (codes "a") (object ms)) (operation_field (codes "how") (object ms))
-    (name_field (codes "b") (object ms)) (λ a how b. Ok (Change (All a how b))) r e in
-    as_table ms (Change (All x.0 x.1 x.2)) r x.7 refl refl (count_found ms 4 tt x.3) (
+    (name_field (codes "b") (object ms)) (λ a how b. Ok (of_command (All a how b))) r e in
+    as_table ms (of_command (All x.0 x.1 x.2)) r x.7 refl refl (count_found ms 4 tt x.3) (
       name_found (get_member (codes "a") ms) x.0 x.4,
       (
         name_found (get_member (codes "b") ms) x.2 x.6,
@@ -203,15 +213,20 @@ state_found ms r s e =
     let x = one (has_fields 2 (object ms)) (u64_field (codes "k") (object ms)) (λ k. Ok (Ask (State k))) r e in
     as_table ms (Ask (State x.0)) r x.3 refl refl (count_found ms 2 tt x.1) (natural_found (get_member (codes "k") ms) x.0 x.2, (s, tt))
 
+note_found_of : IsFound (codes "note") note_of
+note_found_of ms r s e =
+    let x = one (has_fields 2 (object ms)) (u64_field (codes "k") (object ms)) (λ k. Ok (Ask (Note k))) r e in
+    as_table ms (Ask (Note x.0)) r x.3 refl refl (count_found ms 2 tt x.1) (natural_found (get_member (codes "k") ms) x.0 x.2, (s, tt))
+
 -- ---- the ops with literals
 
 remap_found : IsFound (codes "remap") remap_of
 remap_found ms r s e =
     let x = two (has_fields 3 (object ms)) (name_field (codes "d") (object ms)) (text_field (codes "map") (object ms))
-    (λ d text. literal_mapping text >>= (λ spelled. mapping_within spelled >>= (λ m. Ok (Change (Remap d m))))) r e in
-    let l = step (literal_mapping x.1) (λ spelled. mapping_within spelled >>= (λ m. Ok (Change (Remap x.0 m)))) r x.5 in
-    let m = step (mapping_within l.0) (λ m. Ok (Change (Remap x.0 m))) r l.2 in
-    as_table ms (Change (Remap x.0 m.0)) r m.2 refl refl (count_found ms 3 tt x.2) (
+    (λ d text. literal_mapping text >>= (λ spelled. mapping_within spelled >>= (λ m. Ok (of_command (Remap d m))))) r e in
+    let l = step (literal_mapping x.1) (λ spelled. mapping_within spelled >>= (λ m. Ok (of_command (Remap x.0 m)))) r x.5 in
+    let m = step (mapping_within l.0) (λ m. Ok (of_command (Remap x.0 m))) r l.2 in
+    as_table ms (of_command (Remap x.0 m.0)) r m.2 refl refl (count_found ms 3 tt x.2) (
       name_found (get_member (codes "d") ms) x.0 x.3,
       (
         says_text (get_member (codes "map") ms) (mapping m.0) x.1
@@ -225,13 +240,13 @@ fill_over_found : (ms : Members) (a : Name) (text : List ℕ) (v : ℤ) (l : lit
     → Says (get_member (codes "a") ms) (name a) → get_member (codes "on") ms ≡ Some (string text) → Says (get_member (codes "v") ms) (integer v) →
     grammar.IsDomain text l → fill_over a l v ≡ Ok r → HasFields ms (table r)
 fill_over_found ms a text v (literals.rectangle l) r s n named on value spelled e =
-    let x = step (domain_within l) (λ ranges. Ok (Change (Fill a (Ranges ranges) v))) r e in
-    as_table ms (Change (Fill a (Ranges x.0) v)) r x.2 refl refl n (
+    let x = step (domain_within l) (λ ranges. Ok (of_command (Fill a (Ranges ranges) v))) r e in
+    as_table ms (of_command (Fill a (Ranges x.0) v)) r x.2 refl refl n (
       named,
       (says_text (get_member (codes "on") ms) (given (Rectangle x.0)) text on (text, l, refl, spelled, rectangle_found l x.0 x.1), (s, (value, tt))),
     )
 fill_over_found ms a text v (literals.set listed) r s n named on value spelled e =
-    as_table ms (Change (Fill a Indices v)) r e refl refl n (
+    as_table ms (of_command (Fill a Indices v)) r e refl refl n (
       named,
       (says_text (get_member (codes "on") ms) some_set text on (text, listed, refl, spelled), (s, (value, tt))),
     )
@@ -250,8 +265,8 @@ put_over_found : (ms : Members) (a : Name) (text : List ℕ) (v : Data) (vs : Li
     grammar.IsDomain text l → put_over a l vs ≡ Ok r → HasFields ms (table r)
 put_over_found ms a text v vs (literals.rectangle l) r s n named on at integral spelled e =
     let x = step (domain_within l) (λ ranges. put_on a ranges vs) r e in
-    let k = chosen (nat_eq (length vs) (length (indices x.0))) (Change (Put a (numbered (x.0, vs)))) r x.2 in
-    as_table ms (Change (Put a (numbered (x.0, vs)))) r (ap Ok k.1) refl refl n (
+    let k = chosen (nat_eq (length vs) (length (indices x.0))) (of_command (Put a (numbered (x.0, vs)))) r x.2 in
+    as_table ms (of_command (Put a (numbered (x.0, vs)))) r (ap Ok k.1) refl refl n (
       named,
       (
         says_text (get_member (codes "on") ms) (given (Rectangle x.0)) text on (text, l, refl, spelled, rectangle_found l x.0 x.1),
@@ -259,7 +274,7 @@ put_over_found ms a text v vs (literals.rectangle l) r s n named on at integral 
       ),
     )
 put_over_found ms a text v vs (literals.set listed) r s n named on at integral spelled e =
-    as_table ms (Change (Put a not_numbered)) r e refl refl n (
+    as_table ms (of_command (Put a not_numbered)) r e refl refl n (
       named,
       (
         says_text (get_member (codes "on") ms) some_set text on (text, listed, refl, spelled),
@@ -305,14 +320,14 @@ domain_with_found : (ms : Members) (d : Name) (text : List ℕ) (t : Option (Lis
     grammar.IsDomain text l
     → text_if_there (get_member (codes "map") ms) ≡ Ok t → mapping_if_there t ≡ Ok m → domain_with d l m ≡ Ok r → HasFields ms (table r)
 domain_with_found ms d text t (literals.rectangle l) m r s n named is spelled there mapped e =
-    let x = step (domain_within l) (λ ranges. mapping_within m >>= (λ map. Ok (Change (Domain d (Ranges ranges) map)))) r e in
-    let y = step (mapping_within m) (λ map. Ok (Change (Domain d (Ranges x.0) map))) r x.2 in
-    domain_fields ms (Change (Domain d (Ranges x.0) y.0)) r d (given (Rectangle x.0)) (optional_mapping y.0) refl refl y.2 n named
+    let x = step (domain_within l) (λ ranges. mapping_within m >>= (λ map. Ok (of_command (Domain d (Ranges ranges) map)))) r e in
+    let y = step (mapping_within m) (λ map. Ok (of_command (Domain d (Ranges x.0) map))) r x.2 in
+    domain_fields ms (of_command (Domain d (Ranges x.0) y.0)) r d (given (Rectangle x.0)) (optional_mapping y.0) refl refl y.2 n named
     (says_text (get_member (codes "is") ms) (given (Rectangle x.0)) text is (text, l, refl, spelled, rectangle_found l x.0 x.1))
     (optional_found (get_member (codes "map") ms) t m y.0 there mapped y.1) s
 domain_with_found ms d text t (literals.set listed) m r s n named is spelled there mapped e =
-    let y = step (mapping_within m) (λ map. Ok (Change (Domain d Indices map))) r e in
-    domain_fields ms (Change (Domain d Indices y.0)) r d some_set (optional_mapping y.0) refl refl y.2 n named
+    let y = step (mapping_within m) (λ map. Ok (of_command (Domain d Indices map))) r e in
+    domain_fields ms (of_command (Domain d Indices y.0)) r d some_set (optional_mapping y.0) refl refl y.2 n named
     (says_text (get_member (codes "is") ms) some_set text is (text, listed, refl, spelled))
     (optional_found (get_member (codes "map") ms) t m y.0 there mapped y.1) s
 
@@ -351,14 +366,14 @@ displace_found how v s e = let x = step (offsets_by v) (λ is. Ok (Displace how 
 
 module _ (ms : Members) (d : Name) (s : Says (get_member (codes "op") ms) (word (codes "reshape"))) (n : member_count ms ≡ 3)
     (named : Says (get_member (codes "d") ms) (name d)) where
-  here : (x : NewIndices) (y : NewIndices) → are_apart (table (Change (Reshape d x))) ≡ true → are_needed (table (Change (Reshape d x))) ≡ true →
-      3 ≡ length (table (Change (Reshape d x)))
-      → x ≡ y → AllSay (table (Change (Reshape d x))) ms → HasFields ms (table (Change (Reshape d y)))
-  here x y h k l e a = subst (λ y. HasFields ms (table (Change (Reshape d y)))) e (exactly (table (Change (Reshape d x))) ms h k (n ∙ l) a)
+  here : (x : NewIndices) (y : NewIndices) → are_apart (table (of_command (Reshape d x))) ≡ true → are_needed (table (of_command (Reshape d x))) ≡ true →
+      3 ≡ length (table (of_command (Reshape d x)))
+      → x ≡ y → AllSay (table (of_command (Reshape d x))) ms → HasFields ms (table (of_command (Reshape d y)))
+  here x y h k l e a = subst (λ y. HasFields ms (table (of_command (Reshape d y)))) e (exactly (table (of_command (Reshape d x))) ms h k (n ∙ l) a)
 
-  combination_found : (y : NewIndices) → combination_of (object ms) ≡ Ok y → HasFields ms (table (Change (Reshape d y)))
+  combination_found : (y : NewIndices) → combination_of (object ms) ≡ Ok y → HasFields ms (table (of_command (Reshape d y)))
   combination_found y e =
-      let P : Type 0 = HasFields ms (table (Change (Reshape d y))) in
+      let P : Type 0 = HasFields ms (table (of_command (Reshape d y))) in
       source_by (get_member (codes "or") ms) (combine_by Union) _ y P e
       (λ v at by. let g = combine_found Union v y by in here (Combine Union g.0) y refl refl refl g.2
       (named, (s, (valued (get_member (codes "or") ms) v (given g.0) at g.1, tt)))) (λ e.
@@ -373,9 +388,9 @@ module _ (ms : Members) (d : Name) (s : Says (get_member (codes "op") ms) (word 
       here (Combine SymmetricDifference g.0) y refl refl refl g.2 (named, (s, (valued (get_member (codes "xor") ms) v (given g.0) at g.1, tt)))) (λ e.
       no_ok BadRequest y e))))
 
-  source_found : (y : NewIndices) → source_of (object ms) ≡ Ok y → HasFields ms (table (Change (Reshape d y)))
+  source_found : (y : NewIndices) → source_of (object ms) ≡ Ok y → HasFields ms (table (of_command (Reshape d y)))
   source_found y e =
-      let P : Type 0 = HasFields ms (table (Change (Reshape d y))) in
+      let P : Type 0 = HasFields ms (table (of_command (Reshape d y))) in
       source_by (get_member (codes "to") ms) to_by _ y P e (λ v at by. let g = to_found v y by in
       here (To g.0) y refl refl refl g.2 (named, (s, (valued (get_member (codes "to") ms) v (given g.0) at g.1, tt)))) (λ e.
       source_by (get_member (codes "slice") ms) slice_by _ y P e (λ v at by. let g = slice_found v y by in
@@ -390,8 +405,8 @@ module _ (ms : Members) (d : Name) (s : Says (get_member (codes "op") ms) (word 
 
 reshape_found : IsFound (codes "reshape") reshape_of
 reshape_found ms r s e =
-    let x = two (has_fields 3 (object ms)) (name_field (codes "d") (object ms)) (source_of (object ms)) (λ d y. Ok (Change (Reshape d y))) r e in
-    subst (λ r. HasFields ms (table r)) (ok_same (Change (Reshape x.0 x.1)) r x.5)
+    let x = two (has_fields 3 (object ms)) (name_field (codes "d") (object ms)) (source_of (object ms)) (λ d y. Ok (of_command (Reshape d y))) r e in
+    subst (λ r. HasFields ms (table r)) (ok_same (of_command (Reshape x.0 x.1)) r x.5)
     (source_found ms x.0 s (count_found ms 3 tt x.2) (name_found (get_member (codes "d") ms) x.0 x.3) x.1 x.4)
 
 -- ---- the ops without a field, or with one that may be missing
@@ -453,17 +468,18 @@ first_found (x ∷ xs) h ms op r s e = elim (bytes_eq op x.0) as
       | false ↦ λ is f. first_found xs h.1 ms op r s f
     ] refl e
 
-abbrev pub readers : List Reader
-readers = (codes "domain", domain_of) ∷ (codes "remap", remap_of) ∷ (codes "sparse", sparse_of) ∷ (codes "assoc", assoc_of) ∷
+-- the readers of anything but a transaction
+abbrev pub singles : List Reader
+singles = (codes "domain", domain_of) ∷ (codes "remap", remap_of) ∷ (codes "sparse", sparse_of) ∷ (codes "assoc", assoc_of) ∷
     (codes "drop_domain", drop_domain_of) ∷ (codes "reshape", reshape_of) ∷ (codes "add", add_of)
     ∷ (codes "remove", remove_of) ∷ (codes "load", load_of) ∷ (codes "explain", explain_of) ∷ (codes "array", array_of) ∷ (codes "drop_array", drop_array_of) ∷ (codes "set", set_of) ∷
     (codes "fill", fill_of) ∷ (codes "put", put_of) ∷ (codes "fill_all", fill_all_of) ∷ (codes "irv", irv_of)
     ∷ (codes "copy", copy_of) ∷ (codes "all", all_of) ∷ (codes "undo", undo_of) ∷ (codes "redo", redo_of) ∷ (codes "cascade", cascade_of) ∷
     (codes "dependents", dependents_of) ∷ (codes "get", get_of) ∷ (codes "where", where_of) ∷ (codes "size", size_of) ∷ (codes "piece", piece_of)
-    ∷ (codes "reduce", reduce_of) ∷ (codes "state", state_of) ∷ (codes "print", print_of) ∷ (codes "history", history_of) ∷ (codes "edits", edits_of) ∷ []
+    ∷ (codes "reduce", reduce_of) ∷ (codes "state", state_of) ∷ (codes "note", note_of) ∷ (codes "print", print_of) ∷ (codes "history", history_of) ∷ (codes "edits", edits_of) ∷ []
 
-all_found : AllFound readers
-all_found = (
+singles_found : AllFound singles
+singles_found = (
   domain_found_of,
   (
     remap_found,
@@ -513,7 +529,7 @@ all_found = (
                                                 get_found,
                                                 (
                                                   where_found,
-                                                  (size_found, (piece_found, (reduce_found, (state_found, (print_found, (history_found, (edits_found, tt))))))),
+                                                  (size_found, (piece_found, (reduce_found, (state_found, (note_found_of, (print_found, (history_found, (edits_found, tt)))))))),
                                                 ),
                                               ),
                                             ),
@@ -539,6 +555,139 @@ all_found = (
     ),
   ),
 )
+
+-- ---- commands
+
+as_command_is : (r : Request) (c : Command) → as_command r ≡ Ok c → r ≡ of_command c
+as_command_is (Change (OneCommand k)) c e = ap of_command (ok_same k c e)
+as_command_is (Change (Transaction t)) c e = no_ok BadRequest c e
+as_command_is (Change (Load text)) c e = no_ok BadRequest c e
+as_command_is (Undo k) c e = no_ok BadRequest c e
+as_command_is (Redo k) c e = no_ok BadRequest c e
+as_command_is (Cascade k) c e = no_ok BadRequest c e
+as_command_is (Dependents k) c e = no_ok BadRequest c e
+as_command_is (Ask q) c e = no_ok BadRequest c e
+as_command_is Print c e = no_ok BadRequest c e
+as_command_is (History from) c e = no_ok BadRequest c e
+as_command_is Edits c e = no_ok BadRequest c e
+as_command_is (Explain line) c e = no_ok BadRequest c e
+
+pub single_found : (ms : Members) (op : List ℕ) (r : Request) → Says (get_member (codes "op") ms) (word op) → by_single_op op (object ms) ≡ Ok r →
+    HasFields ms (table r)
+single_found ms op r s e = first_found singles singles_found ms op r s e
+
+by_command_found : (ms : Members) (op : List ℕ) (c : Command) → Says (get_member (codes "op") ms) (word op) → command_by op (object ms) ≡ Ok c →
+    IsCommand (object ms) c
+by_command_found ms op c s e = elim (is_among command_ops op) as
+    (λ b. (if b then by_single_op op (object ms) >>= as_command else Err BadRequest) ≡ Ok c → IsCommand (object ms) c) [
+      | true ↦ λ f.
+          let r = step (by_single_op op (object ms)) as_command c f in
+          let h = subst (λ r. HasFields ms (table r)) (as_command_is r.0 c r.2) (single_found ms op r.0 s r.1) in
+          (ms, refl, within_several ms c h)
+      | false ↦ λ f. no_ok BadRequest c f
+    ] e
+
+-- what is read as a command is it
+pub one_command_found : (d : Data) (c : Command) → command_of d ≡ Ok c → IsCommand d c
+one_command_found (object ms) c e =
+    let x = step (text_field (codes "op") (object ms)) (λ op. command_by op (object ms)) c e in
+    by_command_found ms x.0 c (word_found (get_member (codes "op") ms) x.0 x.1) x.2
+one_command_found null c e = no_ok BadRequest c e
+one_command_found (boolean b) c e = no_ok BadRequest c e
+one_command_found (json_number n) c e = no_ok BadRequest c e
+one_command_found (string s) c e = no_ok BadRequest c e
+one_command_found (array ds) c e = no_ok BadRequest c e
+
+one_more_found : (r : Result (List Command) Refusal) (q : Result Command Refusal) (cs : List Command) → one_more r q ≡ Ok cs →
+    (before : List Command) × (c : Command) × (r ≡ Ok before) × (q ≡ Ok c) × (before ++ c ∷ [] ≡ cs)
+one_more_found (Ok before) (Ok c) cs e = (before, c, refl, refl, ok_same (before ++ c ∷ []) cs e)
+one_more_found (Ok before) (Err why) cs e = no_ok why cs e
+one_more_found (Err one) (Ok c) cs e = no_ok one cs e
+one_more_found (Err one) (Err more) cs e = no_ok (lesser_refusal one more) cs e
+
+pub commands_found : (ds : Items) (r : Result (List Command) Refusal) (cs : List Command) → commands_after r ds ≡ Ok cs →
+    (before more : List Command) × (r ≡ Ok before) × AreCommands ds more × (before ++ more ≡ cs)
+commands_found no_items r cs e = (cs, [], e, tt, append-nil cs)
+commands_found (item d ds) r cs e =
+    let x = commands_found ds (one_more r (command_of d)) cs e in
+    let y = one_more_found r (command_of d) x.0 x.2 in (
+      y.0,
+      y.1 ∷ x.1,
+      y.2,
+      (one_command_found d y.1 y.3, x.3),
+      sym (append_assoc y.0 (y.1 ∷ []) x.1) ∙ ap (λ zs. zs ++ x.1) y.4 ∙ x.4,
+    )
+
+-- ---- transactions
+
+-- what is read of values is commands, as many as the values
+listed_are : (ds : Items) (cs : List Command) → commands_after (Ok []) ds ≡ Ok cs → AreCommands ds cs
+listed_are ds cs f =
+    let x = commands_found ds (Ok []) cs f in
+    let none : [] ≡ x.0 = ok_same [] x.0 x.2 in
+    subst (AreCommands ds) (ap (λ zs. zs ++ x.1) none ∙ x.4) x.3
+
+-- commands that are read of 1 to 4,096 values are as many
+pub several_commands : (d : Data) (ds : Items) (cs : List Command) → several_field (codes "edits") d ≡ Ok ds → commands_after (Ok []) ds ≡ Ok cs →
+    AreSeveral cs
+several_commands d ds cs e f =
+    let v = several_found (get (codes "edits") d) ds e in
+    let few = several_holds (items_len ds) v.1 in
+    let many = as_many ds cs (listed_are ds cs f) in
+    (subst (λ k. 1 ≤ k) many few.0, subst (λ k. k ≤ 4096) many few.1)
+
+listed_found : (ms : Members) (ds : Items) (cs : List Command) → several_field (codes "edits") (object ms) ≡ Ok ds → commands_after (Ok []) ds ≡ Ok cs →
+    Says (get_member (codes "edits") ms) (edits cs)
+listed_found ms ds cs e f =
+    let v = several_found (get_member (codes "edits") ms) ds e in
+    valued (get_member (codes "edits") ms) (array ds) (edits cs) v.0 (ds, refl, listed_are ds cs f, several_commands (object ms) ds cs e f)
+
+-- what an optional note is read of
+pub note_is : (o : Option Data) (t : List ℕ) → (text_if_there o >>= note_if_there) ≡ Ok (Some t) → (o ≡ Some (string t)) × (is_note t ≡ true)
+note_is None t e = absurd (cc)
+note_is (Some v) t e =
+    let x = step (text_if_there (Some v)) note_if_there (Some t) e in
+    let y = mapped Some (as_str v) x.0 (some_of_ok (option_map Some (as_str v)) BadRequest x.0 x.1) in
+    let z : note_if_there (Some y.0) ≡ Ok (Some t) = ap note_if_there y.2 ∙ x.2 in
+    let n = step (note_in y.0) (λ n. Ok (Some n)) (Some t) z in
+    let k = chosen (is_note y.0) y.0 n.0 n.1 in
+    let same : y.0 ≡ t = k.1 ∙ some_same n.0 t (ok_same (Some n.0) (Some t) n.2) in
+    (ap Some (str_found v y.0 y.1 ∙ ap string same), ap is_note (sym same) ∙ k.0)
+
+pub no_note_is : (o : Option Data) → (text_if_there o >>= note_if_there) ≡ Ok None → o ≡ None
+no_note_is None e = refl
+no_note_is (Some v) e =
+    let x = step (text_if_there (Some v)) note_if_there None e in
+    let y = mapped Some (as_str v) x.0 (some_of_ok (option_map Some (as_str v)) BadRequest x.0 x.1) in
+    let z : note_if_there (Some y.0) ≡ Ok None = ap note_if_there y.2 ∙ x.2 in
+    let n = step (note_in y.0) (λ n. Ok (Some n)) None z in
+    no_some n.0 (sym (ok_same (Some n.0) None n.2))
+
+transaction_fields : (ms : Members) (cs : List Command) (n : Option (List ℕ)) (r : Request) → Says (get_member (codes "op") ms) (word (codes "transaction")) →
+    optional_note (codes "note") (object ms) ≡ Ok n → has_fields_and 2 n (object ms) ≡ Ok tt → Says (get_member (codes "edits") ms) (edits cs) →
+    ◌≡◌ {A = Result Request Refusal} (Ok (Change (Transaction (cs, n)))) (Ok r) → HasFields ms (table r)
+transaction_fields ms cs None r s e u says f = as_table ms (Change (Transaction (cs, None))) r f refl refl (count_found ms 2 tt u) (says, (s, tt))
+transaction_fields ms cs (Some t) r s e u says f =
+    let n = note_is (get_member (codes "note") ms) t e in
+    as_table ms (Change (Transaction (cs, Some t))) r f refl refl (count_found ms 3 tt u)
+    (says, (says_text (get_member (codes "note") ms) (note t) t n.0 (refl, n.1), (s, tt)))
+
+transaction_found : IsFound (codes "transaction") transaction_of
+transaction_found ms r s e =
+    let n = step (optional_note (codes "note") (object ms)) (λ note. has_fields_and 2 note (object ms) >>= (λ u. several_field (codes "edits") (object ms) >>=
+    (λ ds. commands_after (Ok []) ds >>= (λ cs. Ok (Change (Transaction (cs, note))))))) r e in
+    let x = one (has_fields_and 2 n.0 (object ms)) (several_field (codes "edits") (object ms))
+    (λ ds. commands_after (Ok []) ds >>= (λ cs. Ok (Change (Transaction (cs, n.0))))) r n.2 in
+    let c = step (commands_after (Ok []) x.0) (λ cs. Ok (Change (Transaction (cs, n.0)))) r x.3 in
+    transaction_fields ms c.0 n.0 r s n.1 x.1 (listed_found ms x.0 c.0 x.2 c.1) c.2
+
+-- ---- every request
+
+abbrev pub readers : List Reader
+readers = (codes "transaction", transaction_of) ∷ singles
+
+all_found : AllFound readers
+all_found = (transaction_found, singles_found)
 
 by_object : (ms : Members) (r : Request) → request_of (object ms) ≡ Ok r → HasFields ms (table r)
 by_object ms r e =

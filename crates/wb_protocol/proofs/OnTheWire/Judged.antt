@@ -11,7 +11,7 @@ use Rattle.wb_protocol.specs.Fields.{◌>>=◌, member_count, has_fields}
 use Rattle.wb_protocol.specs.Replies.{code_of}
 use Rattle.wb_protocol.specs.declared.requests.request.Request.{Request}
 use Rattle.wb_protocol.specs.Wire.Faults.{Fault, bad_request, bad_literal, too_large, bad_mapping, code, refusal_of, forms, HasKeys, NamesOp, IsWhole, Plain, Kind}
-use Rattle.wb_protocol.specs.Wire.Faults.{plain, kind_of, Fails, IsMiscounted, IsFault, not_whole, of_member, IsLeastFault}
+use Rattle.wb_protocol.specs.Wire.Faults.{plain, kind_of, Fails, IsMiscounted, IsOwnFault, not_whole, of_member}
 use Rattle.wb_protocol.proofs.OnTheWire.Values.{no_ok, some_same}
 use Rattle.wb_protocol.proofs.OnTheWire.Spellings.{count_read}
 use Rattle.wb_protocol.proofs.OnTheWire.Steps.{one_of, two_of, three_of, five_of}
@@ -64,15 +64,29 @@ least_code bad_mapping = omega arith
 
 -- ---- what is to be shown
 
+-- what is read is without any of these faults, and what is refused is refused with the least of them
+abbrev pub IsLeastOf : (Fault → Type 0) → Fault → Type 0
+IsLeastOf P f = P f × ((g : Fault) → P g → code f ≤ code g)
+
+abbrev pub RefusedBy : (Fault → Type 0) → Refusal → Type 0
+RefusedBy P why = (f : Fault) × (why ≡ refusal_of f) × IsLeastOf P f
+
+abbrev pub JudgedBy : {X : Type 0} → (Fault → Type 0) → Result X Refusal → Type 0
+JudgedBy P (Ok x) = (f : Fault) → P f → ⊥
+JudgedBy P (Err why) = RefusedBy P why
+
+-- the same of what is wrong with an object itself
+abbrev pub IsLeastOwn : Data → Fault → Type 0
+IsLeastOwn d f = IsLeastOf (IsOwnFault d) f
+
 abbrev pub NoFault : Data → Type 0
-NoFault d = (f : Fault) → IsFault d f → ⊥
+NoFault d = (f : Fault) → IsOwnFault d f → ⊥
 
 abbrev pub Refused : Data → Refusal → Type 0
-Refused d why = (f : Fault) × (why ≡ refusal_of f) × IsLeastFault d f
+Refused d why = RefusedBy (IsOwnFault d) why
 
 abbrev pub Judges : {X : Type 0} → Data → Result X Refusal → Type 0
-Judges d (Ok x) = NoFault d
-Judges d (Err why) = Refused d why
+Judges d r = JudgedBy (IsOwnFault d) r
 
 abbrev pub Judged : {X : Type 0} → Members → Result X Refusal → Type 0
 Judged ms r = Judges (object ms) r
@@ -81,7 +95,7 @@ Judged ms r = Judges (object ms) r
 abbrev pub IsJudged : List ℕ → (Data → Result Request Refusal) → Type 0
 IsJudged op read = (ms : Members) → NamesOp ms op → Judged ms (read (object ms))
 
-pub first : (d : Data) (why : Refusal) → why ≡ BadRequest → IsFault d bad_request → Refused d why
+pub first : (d : Data) (why : Refusal) → why ≡ BadRequest → IsOwnFault d bad_request → Refused d why
 first d why e f = (bad_request, e, (f, λ g x. least_code g))
 
 -- ---- readers of so many members
@@ -137,7 +151,7 @@ fails_there ms o k kind v f kd g x =
     subst (λ kind. Fails kind v f) (sym (some_same kind x.0 (sym kd ∙ x.2))) (subst (λ v. Fails x.0 v f) (sym (some_same v x.1 (sym g ∙ x.3))) x.4)
 
 pub member_fault : (ms : Members) (o k : List ℕ) (kind : Kind) (v : Data) (f : Fault) → NamesOp ms o → kind_of o k ≡ Some kind → get_member k ms ≡ Some v →
-    Fails kind v f → IsFault (object ms) f
+    Fails kind v f → IsOwnFault (object ms) f
 member_fault ms o k kind v f s kd g x = of_member (record {
   members = ms;
   op = o;
@@ -236,11 +250,11 @@ pub fine_above : (ms : Members) (o k : List ℕ) (f : Fault) → Fine ms o k →
 fine_above ms o k f x g y = absurd (x.1 g y)
 
 least_by : (ms : Members) (o : List ℕ) (ks : List (List ℕ)) (f : Fault) → NamesOp ms o → Contains forms (o, ks) → HasKeys ms (codes "op" ∷ ks) →
-    IsFault (object ms) f → AllKeys ks (IsAbove ms o f) → (IsMiscounted (object ms) → ⊥) → IsLeastFault (object ms) f
+    IsOwnFault (object ms) f → AllKeys ks (IsAbove ms o f) → (IsMiscounted (object ms) → ⊥) → IsLeastOwn (object ms) f
 least_by ms o ks f s c h x all count = (x, all_faults ms o ks (λ g. code f ≤ code g) s c h all (λ m. absurd (count m)))
 
 pub least_of : (ms : Members) (o : List ℕ) (ks : List (List ℕ)) (f : Fault) → NamesOp ms o → IsForm (o, ks) → HasKeys ms (codes "op" ∷ ks) →
-    IsFault (object ms) f → AllKeys ks (IsAbove ms o f) → IsLeastFault (object ms) f
+    IsOwnFault (object ms) f → AllKeys ks (IsAbove ms o f) → IsLeastOwn (object ms) f
 least_of ms o ks f s c h x all = least_by ms o ks f s c.0 h x all (uncounted_op ms o s c.1)
 
 -- the value of one member is refused, and no other has a lower code

@@ -9,7 +9,7 @@ use Rattle.serde_json.specs.Data.{Data, string, object, Members}
 use Rattle.serde_json.specs.Find.{get_member}
 use Rattle.wb_protocol.specs.Fields.{member_count}
 use Rattle.wb_protocol.specs.Wire.Spelled.{without}
-use Rattle.wb_protocol.specs.Wire.Faults.{forms, HasKeys, NamesOp, IsWhole, Kind, kind_of, Fault, bad_request, Fails, IsMiscounted, IsFault, not_whole, of_member, of_count}
+use Rattle.wb_protocol.specs.Wire.Faults.{forms, HasKeys, NamesOp, IsWhole, Kind, kind_of, Fault, bad_request, Fails, IsMiscounted, IsOwnFault, not_whole, of_member, of_count}
 use Rattle.wb_protocol.proofs.OnTheWire.Members.{true_false, equal_key, same_key, other_same, count_out, there, free_parts, unequal, nothing_there}
 use Rattle.wb_protocol.proofs.OnTheWire.Values.{no_some}
 
@@ -159,7 +159,7 @@ member_with ms op P fault s h ns other k kind v m t kd g f =
     h k (kind, v, subst (λ op. kind_of op k ≡ Some kind) (sym o) kd, subst (λ ms. get_member k ms ≡ Some v) (sym m) g, f)
 
 pub all_faults : (ms : Members) (op : List ℕ) (ks : List (List ℕ)) (P : Fault → Type 0) → NamesOp ms op → Contains forms (op, ks) → HasKeys ms (codes "op" ∷ ks)
-    → AllKeys ks (λ k. (g : Fault) → FailsAt ms op k g → P g) → (IsMiscounted (object ms) → P bad_request) → (fault : Fault) → IsFault (object ms) fault →
+    → AllKeys ks (λ k. (g : Fault) → FailsAt ms op k g → P g) → (IsMiscounted (object ms) → P bad_request) → (fault : Fault) → IsOwnFault (object ms) fault →
     P fault
 all_faults ms op ks P s c h all count fault (not_whole e other) = absurd (other (ms, op, ks, refl, s, c, h))
 all_faults ms op ks P s c h all count fault (of_count e m) = subst P (sym e) (count m)

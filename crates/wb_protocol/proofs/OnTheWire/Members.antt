@@ -12,7 +12,7 @@ use Rattle.serde_json.specs.Data.{Data, Members, no_members, member}
 use Rattle.serde_json.specs.Find.{get_member}
 use Rattle.wb_protocol.specs.Fields.{member_count}
 use Rattle.wb_protocol.specs.Wire.Table.{Meaning, word, name, integer, number, index, given, mapping, optional_mapping, book, numbers}
-use Rattle.wb_protocol.specs.Wire.Table.{some_set, some_numbers, Fields}
+use Rattle.wb_protocol.specs.Wire.Table.{some_set, some_numbers, note, edits, Fields}
 use Rattle.wb_protocol.specs.Wire.Spelled.{Says, without, HasFields}
 
 pub true_false : {X : Type 0} → true ≡ false → X
@@ -168,6 +168,8 @@ is_needed (book text) = true
 is_needed (numbers on vs) = true
 is_needed some_set = true
 is_needed some_numbers = true
+is_needed (note n) = true
+is_needed (edits cs) = true
 
 abbrev pub are_needed : Fields → Bool
 are_needed [] = true
@@ -187,6 +189,8 @@ is_there None (book text) h s = absurd s
 is_there None (numbers on vs) h s = absurd s
 is_there None some_set h s = absurd s
 is_there None some_numbers h s = absurd s
+is_there None (note n) h s = absurd s
+is_there None (edits cs) h s = absurd s
 
 pub all_there : (fs : Fields) (ms : Members) → are_needed fs ≡ true → AllSay fs ms → count_there fs ms ≡ length fs
 all_there [] ms h a = refl

@@ -12,9 +12,10 @@ use Rattle.wb_reshape.specs.declared.operand.Operand.TheVariants.{Rectangle, Ite
 use Rattle.wb_protocol.specs.Requests.{request}
 use Rattle.wb_protocol.specs.declared.requests.request.Request.{Request}
 use Rattle.wb_protocol.specs.Wire.Table.{Meaning, word, name, integer, number, index, given, mapping, optional_mapping, book, numbers}
-use Rattle.wb_protocol.specs.Wire.Table.{some_set, some_numbers, Fields, table}
-use Rattle.wb_protocol.specs.Wire.Spelled.{AreIntegers, IsIndex, IsOperand, Spells, Says, without, HasFields}
-use Rattle.wb_protocol.specs.Wire.Proper.{AllWithin, IsProperIndex, IsProperOperand, IsProper, AreProper, IsProperRequest}
+use Rattle.wb_protocol.specs.Wire.Table.{some_set, some_numbers, note, edits, Fields, command_table, table}
+use Rattle.wb_edit.specs.declared.command.Command.{Command}
+use Rattle.wb_protocol.specs.Wire.Spelled.{AreIntegers, IsIndex, IsOperand, SpellsBy, MayLack, SaysBy, without, HasFieldsBy, AreCommands, IsEdits}
+use Rattle.wb_protocol.specs.Wire.Proper.{AllWithin, IsProperIndex, IsProperOperand, IsProperBy, AreProperBy, AreProperCommands, AreProperEdits, IsProperRequest}
 use Rattle.wb_protocol.proofs.OnTheWire.Lines.{line_found}
 use Rattle.wb_protocol.proofs.OnTheWire.Mappings.{mapping_is}
 use Rattle.wb_protocol.proofs.OnTheWire.Readable.{IsFit, AreFitItems, AreFit, read_fits, member_fits, integer_within}
@@ -52,41 +53,24 @@ given_is d (Rectangle ranges) h = domain_is h.1 ranges h.4
 given_is d (Listed is) h = subst (λ is. IsProperOperand (Listed is)) h.4 (set_is h.0 h.1 h.3, ascending_again (listed_in h.1))
 given_is d (Named n) h = h.1
 
-spelled_is : (d : Data) (x : Meaning) → IsFit d → Spells d x → IsProper x
-spelled_is d (word w) f h = tt
-spelled_is d (name n) f h = h.1
-spelled_is d (integer z) f h = integer_within d h.0 z f h.1 h.2
-spelled_is d (number k) f h = tt
-spelled_is d (index i) f h = index_is d i f h
-spelled_is d (given g) f h = given_is d g h
-spelled_is d (mapping m) f h = mapping_is h.0 h.1 m h.3 h.4
-spelled_is d (optional_mapping m) f h = mapping_is h.0 h.1 m h.3 h.4
-spelled_is d (book text) f h = h.1
-spelled_is d (numbers on vs) f h = (integers_are h.0.0 vs (subst IsFit h.0.1 f) h.0.2, h.1)
-spelled_is d some_set f h = tt
-spelled_is d some_numbers f h = tt
-
 -- a member that is missing is a mapping, which is then the one of a single locale
-missing_is : (x : Meaning) → Says None x → IsProper x
-missing_is (optional_mapping m) h = subst IsLayout (sym h) tt
-missing_is (word w) h = absurd h
-missing_is (name n) h = absurd h
-missing_is (integer z) h = absurd h
-missing_is (number k) h = absurd h
-missing_is (index i) h = absurd h
-missing_is (given g) h = absurd h
-missing_is (mapping m) h = absurd h
-missing_is (book text) h = absurd h
-missing_is (numbers on vs) h = absurd h
-missing_is some_set h = absurd h
-missing_is some_numbers h = absurd h
-
-said_is : (o : Option Data) (x : Meaning) → ((d : Data) → o ≡ Some d → IsFit d) → Says o x → IsProper x
-said_is None x f h = missing_is x h
-said_is (Some d) x f h = spelled_is d x (f d refl) h
+missing_is : (P : List Command → Type 0) (x : Meaning) → MayLack x → IsProperBy P x
+missing_is P (optional_mapping m) h = subst IsLayout (sym h) tt
+missing_is P (word w) h = absurd h
+missing_is P (name n) h = absurd h
+missing_is P (integer z) h = absurd h
+missing_is P (number k) h = absurd h
+missing_is P (index i) h = absurd h
+missing_is P (given g) h = absurd h
+missing_is P (mapping m) h = absurd h
+missing_is P (book text) h = absurd h
+missing_is P (numbers on vs) h = absurd h
+missing_is P some_set h = absurd h
+missing_is P some_numbers h = absurd h
+missing_is P (note n) h = absurd h
+missing_is P (edits cs) h = absurd h
 
 -- ---- all members
-
 fit_without : (k : List ℕ) (ms : Members) → AreFit ms → AreFit (without k ms)
 fit_without k no_members f = tt
 fit_without k (member l d ms) f = kept (bytes_eq k l) f.0 f.1 (fit_without k ms f.1)
@@ -95,12 +79,47 @@ fit_without k (member l d ms) f = kept (bytes_eq k l) f.0 f.1 (fit_without k ms 
     kept true one all rest = all
     kept false one all rest = (one, rest)
 
-fields_are : (fs : Fields) (ms : Members) → AreFit ms → HasFields ms fs → AreProper fs
-fields_are [] ms f h = tt
-fields_are (x ∷ fs) ms f h = (said_is (get_member x.0 ms) x.1 (λ d e. member_fits x.0 ms d f e) h.0, fields_are fs (without x.0 ms) (fit_without x.0 ms f) h.1)
+-- by what commands are
+module _ (E : Data → List Command → Type 0) (P : List Command → Type 0) (several : (d : Data) (cs : List Command) → IsFit d → E d cs → P cs) where
+  spelled_is : (d : Data) (x : Meaning) → IsFit d → SpellsBy E d x → IsProperBy P x
+  spelled_is d (word w) f h = tt
+  spelled_is d (name n) f h = h.1
+  spelled_is d (integer z) f h = integer_within d h.0 z f h.1 h.2
+  spelled_is d (number k) f h = tt
+  spelled_is d (index i) f h = index_is d i f h
+  spelled_is d (given g) f h = given_is d g h
+  spelled_is d (mapping m) f h = mapping_is h.0 h.1 m h.3 h.4
+  spelled_is d (optional_mapping m) f h = mapping_is h.0 h.1 m h.3 h.4
+  spelled_is d (book text) f h = h.1
+  spelled_is d (numbers on vs) f h = (integers_are h.0.0 vs (subst IsFit h.0.1 f) h.0.2, h.1)
+  spelled_is d some_set f h = tt
+  spelled_is d some_numbers f h = tt
+  spelled_is d (note n) f h = h.1
+  spelled_is d (edits cs) f h = several d cs f h
+
+  said_is : (o : Option Data) (x : Meaning) → ((d : Data) → o ≡ Some d → IsFit d) → SaysBy E o x → IsProperBy P x
+  said_is None x f h = missing_is P x h
+  said_is (Some d) x f h = spelled_is d x (f d refl) h
+
+  fields_are : (fs : Fields) (ms : Members) → AreFit ms → HasFieldsBy E ms fs → AreProperBy P fs
+  fields_are [] ms f h = tt
+  fields_are (x ∷ fs) ms f h =
+      (said_is (get_member x.0 ms) x.1 (λ d e. member_fits x.0 ms d f e) h.0, fields_are fs (without x.0 ms) (fit_without x.0 ms f) h.1)
+
+commands_are : (ds : Items) (cs : List Command) → AreFitItems ds → AreCommands ds cs → AreProperCommands cs
+commands_are no_items [] f h = tt
+commands_are (item d ds) (c ∷ cs) f h = (
+  fields_are (λ v cs. ⊥) (λ cs. ⊥) (λ v cs g k. k) (command_table c) h.0.0 (subst IsFit h.0.1 f.0) h.0.2,
+  commands_are ds cs f.1 h.1,
+)
+commands_are no_items (c ∷ cs) f h = absurd h
+commands_are (item d ds) [] f h = absurd h
+
+edits_are : (d : Data) (cs : List Command) → IsFit d → IsEdits d cs → AreProperEdits cs
+edits_are d cs f h = (commands_are h.0 cs (subst IsFit h.1 f) h.2, h.3)
 
 pub read_proper : (line : List ℕ) (r : Request) → request line ≡ Ok r → IsProperRequest r
 read_proper line r e =
     let x = line_found line r e in
     let ms = x.3.0 in
-    fields_are (table r) ms (subst IsFit x.3.1 (read_fits line x.0 x.2)) x.3.2
+    fields_are IsEdits AreProperEdits edits_are (table r) ms (subst IsFit x.3.1 (read_fits line x.0 x.2)) x.3.2

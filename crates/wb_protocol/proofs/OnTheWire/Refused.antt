@@ -5,14 +5,15 @@ use Rattle.std.specs.Prelude.{bytes_eq, Contains}
 use Rattle.std.specs.Option.{ok_or, option_map_or}
 use Rattle.std.proofs.lemmas.List.Elements.{All-contains}
 use Rattle.std.proofs.lemmas.List.Sums.{AllPass-from_list_all}
-use Rattle.serde_json.specs.Data.{Data, null, boolean, number as json_number, string, array, object, Members}
+use Rattle.serde_json.specs.Data.{Data, string, object, Members}
 use Rattle.serde_json.specs.Find.{get_member, as_str}
 use Rattle.wb_dist.specs.Maps.{LayoutMap, whole}
 use Rattle.wb_cells.specs.Cells.{Name}
 use Rattle.wb_cells.specs.Shapes.{Range, indices}
 use Rattle.wb_edit.specs.declared.asked_numbers.AskedNumbers.TheVariants.{Rectangle as numbered}
 use Rattle.wb_edit.specs.declared.asked_rectangle.AskedRectangle.TheVariants.{Ranges, Indices}
-use Rattle.wb_edit.specs.declared.edit.Edit.TheVariants.{Domain as NewDomain, Remap, Reshape, Fill, Put, Load}
+use Rattle.wb_edit.specs.declared.command.Command.TheVariants.{Domain as NewDomain, Remap, Reshape, Fill, Put}
+use Rattle.wb_edit.specs.declared.edit.Edit.TheVariants.{Load}
 use Rattle.wb_log.specs.declared.refusal.Refusal.{Refusal}
 use Rattle.wb_log.specs.declared.refusal.Refusal.TheVariants.{BadRequest, BadLiteral}
 use Rattle.wb_literals.specs.Domain.{Domain, rectangle, set, domain_of as domain_of_text}
@@ -31,8 +32,8 @@ use Rattle.wb_protocol.specs.Fields.{◌>>=◌, member_count, has_fields, has_fi
 use Rattle.wb_protocol.specs.Fields.{integers_field}
 use Rattle.wb_protocol.specs.Literals.{literal_domain, literal_mapping, text_of_book, domain_within, mapping_within}
 use Rattle.wb_protocol.specs.Sources.{to_by, slice_by, displace_by, combine_by, source_of}
-use Rattle.wb_protocol.specs.Requests.{domain_with, domain_by, domain_of, remap_of, reshape_of, fill_over, fill_of, put_on, put_over, put_of, load_of}
-use Rattle.wb_protocol.specs.Requests.{undo_by_number, undo_of, print_of, history_from, history_of, edits_of, by_op, request_of}
+use Rattle.wb_protocol.specs.Requests.{of_command, domain_with, domain_by, domain_of, remap_of, reshape_of, fill_over, fill_of, put_on, put_over, put_of, load_of}
+use Rattle.wb_protocol.specs.Requests.{undo_by_number, undo_of, print_of, history_from, history_of, edits_of, by_single_op}
 use Rattle.wb_protocol.specs.declared.requests.request.Request.{Request}
 use Rattle.wb_protocol.specs.declared.requests.request.Request.TheVariants.{Change, Undo, Print, History, Edits}
 use Rattle.wb_protocol.specs.Wire.Faults.{Fault, bad_request, bad_literal, too_large, bad_mapping, code, refusal_of, forms, HasKeys, NamesOp, IsWhole, Kind, kind_of}
@@ -40,22 +41,22 @@ use Rattle.wb_protocol.specs.Wire.Faults.{Fails, IsMiscounted, not_whole, of_cou
 use Rattle.wb_protocol.specs.Wire.Spelled.{IsOperand}
 use Rattle.wb_protocol.specs.Wire.Faults as kinds
 use Rattle.wb_protocol.proofs.OnTheWire.Members.{true_false, equal_key}
-use Rattle.wb_protocol.proofs.OnTheWire.Values.{no_ok, some_of_ok, no_some, mapped, str_found, text_in, text_found, text_read, integer_in}
+use Rattle.wb_protocol.proofs.OnTheWire.Values.{some_of_ok, no_some, mapped, str_found, text_in, text_found, text_read, integer_in}
 use Rattle.wb_protocol.proofs.OnTheWire.Values.{ok_same, some_same, integers_in, integers_found, integers_read}
 use Rattle.wb_protocol.proofs.OnTheWire.Spellings.{count_found, domain_found, domain_read, rectangle_found, rectangle_read, literal_read}
 use Rattle.wb_protocol.proofs.OnTheWire.Steps.{two_of}
-use Rattle.wb_protocol.proofs.OnTheWire.Found.{Reader, by_first, readers}
+use Rattle.wb_protocol.proofs.OnTheWire.Found.{Reader, by_first, singles}
 use Rattle.wb_protocol.proofs.OnTheWire.Keys.{has, apart, AllKeys, keys_counted, no_more, of_form, contained_at, form_at, IsForm, members_same, not_whole_by, key_there, passes, lacks, FailsAt}
 use Rattle.wb_protocol.proofs.OnTheWire.Failing.{err_same, no_err, or_only, IsReader, name_in, name_reader, integer_reader, integers_reader, number_reader, offsets_reader}
 use Rattle.wb_protocol.proofs.OnTheWire.Failing.{text_bad, unspelled_domain, unspelled_mapping, rectangle_err, domain_judged, domain_in, domain_reader, mapping_in, mapping_reader}
 use Rattle.wb_protocol.proofs.OnTheWire.Failing.{workbook_in, workbook_reader, string_same, source_reader}
-use Rattle.wb_protocol.proofs.OnTheWire.Judged.{refusal_same, NoFault, Refused, Judges, Judged, IsJudged, first, bind_judged, one_judged, two_judged, three_judged}
+use Rattle.wb_protocol.proofs.OnTheWire.Judged.{NoFault, Refused, Judges, Judged, IsJudged, first, bind_judged, one_judged, two_judged, three_judged}
 use Rattle.wb_protocol.proofs.OnTheWire.Judged.{fails_there, member_fault, Fine, fine, field_bad, field_bad_by, uncounted, count_bad, whole_fine, all_fine, IsAbove}
 use Rattle.wb_protocol.proofs.OnTheWire.Judged.{fine_above, least_of, all_fine_by, value_bad_by, value_bad}
 use Rattle.std.specs.List.{list_all}
 use Rattle.wb_protocol.proofs.OnTheWire.RefusedPlain.{sparse_judged, assoc_judged, drop_domain_judged, add_judged, remove_judged, array_judged, drop_array_judged, set_judged}
 use Rattle.wb_protocol.proofs.OnTheWire.RefusedPlain.{fill_all_judged, irv_judged, copy_judged, all_judged, redo_judged, cascade_judged, dependents_judged, get_judged}
-use Rattle.wb_protocol.proofs.OnTheWire.RefusedPlain.{where_judged, size_judged, piece_judged, reduce_judged, state_judged, explain_judged}
+use Rattle.wb_protocol.proofs.OnTheWire.RefusedPlain.{where_judged, size_judged, piece_judged, reduce_judged, state_judged, note_judged, explain_judged}
 
 -- ---- the ops with one literal
 
@@ -82,19 +83,19 @@ remap_judged : IsJudged (codes "remap") remap_of
 remap_judged ms s =
     let o = codes "remap" in
     two_judged (Judged ms) (has_fields 3 (object ms)) (name_field (codes "d") (object ms)) (text_field (codes "map") (object ms))
-    (λ d text. literal_mapping text >>= (λ spelled. mapping_within spelled >>= (λ m. Ok (Change (Remap d m)))))
+    (λ d text. literal_mapping text >>= (λ spelled. mapping_within spelled >>= (λ m. Ok (of_command (Remap d m)))))
     (λ why. count_bad ms o 2 s refl why) (λ why. field_bad ms o (codes "d") s name_reader refl refl why)
     (λ why e. text_field_bad ms o (codes "map") kinds.mapping s (λ v h. h) refl refl why (get_member (codes "map") ms) refl e)
     (λ d text n p q. with_map d text n p (text_found (get_member (codes "map") ms) text q))
   where
     with_map : (d : Name) (text : List ℕ) → has_fields 3 (object ms) ≡ Ok tt → name_in (get_member (codes "d") ms) ≡ Ok d →
         get_member (codes "map") ms ≡ Some (string text)
-        → Judged ms (literal_mapping text >>= (λ spelled. mapping_within spelled >>= (λ m. Ok (Change (Remap d m)))))
+        → Judged ms (literal_mapping text >>= (λ spelled. mapping_within spelled >>= (λ m. Ok (of_command (Remap d m)))))
     with_map d text n p at =
         let o = codes "remap" in let ks = codes "d" ∷ codes "map" ∷ [] in
         let c : IsForm (o, ks) = form_at 15 (o, ks) refl refl refl in
         let named : Fine ms o (codes "d") = fine ms o (codes "d") name_reader refl d p in
-        spelled_judged (Judged ms) (literal_mapping text) mapping_within (λ m. Change (Remap d m))
+        spelled_judged (Judged ms) (literal_mapping text) mapping_within (λ m. of_command (Remap d m))
         (λ why e. value_bad ms o ks s c (whole_fine ms o ks s refl (count_found ms 3 tt n) (named.0, ((string text, at), tt))) (codes "map") mapping_reader
         refl (string text) at why e (λ f same. (fine_above ms o (codes "d") f named, (same, tt))))
         (λ m e. all_fine ms o ks s c refl (count_found ms 3 tt n) (named, (fine ms o (codes "map") mapping_reader refl m (ap mapping_in at ∙ e), tt)))
@@ -166,7 +167,7 @@ fill_judged ms s =
         λ e. all_fine ms o ks s c refl (count_found ms 4 tt n) (named, (fine ms o (codes "on") domain_reader refl tt (ap domain_in at ∙ e), (value, tt))) in
         by_domain (Judged ms) (literal_domain text) (λ l. fill_over a l v)
         (λ why e. bad why (unspelled_err (literal_domain text) why e))
-        (λ r e. bind_judged (Judged ms) (domain_within r) (λ ranges. Ok (Change (Fill a (Ranges ranges) v)))
+        (λ r e. bind_judged (Judged ms) (domain_within r) (λ ranges. Ok (of_command (Fill a (Ranges ranges) v)))
         (λ why f. bad why (judged_err (literal_domain text) r why e f)) (λ ranges f. good (judged_ok (literal_domain text) r ranges e f)))
         (λ listed e. good (set_ok (literal_domain text) listed e))
 
@@ -250,7 +251,7 @@ put_judged ms s =
         let counted : (r : RectangleLiteral) (ranges : List Range) → literal_domain text ≡ Ok (rectangle r) → domain_within r ≡ Ok ranges →
         Judged ms (put_on a ranges vs) =
         λ r ranges e f. elim (nat_eq (length vs) (length (indices ranges))) as (λ b. nat_eq (length vs) (length (indices ranges)) ≡ b →
-        Judged {X = Request} ms (if b then Ok (Change (Put a (numbered (ranges, vs)))) else Err BadRequest)) [
+        Judged {X = Request} ms (if b then Ok (of_command (Put a (numbered (ranges, vs)))) else Err BadRequest)) [
           | true ↦ λ k. good (judged_ok (literal_domain text) r ranges e f) (λ m. let x = other_count ms text vs at q m in
               x.4 (eqb-true (length vs) (length (indices ranges)) k ∙
               ap (λ is. length (indices is)) (sym (ranges_are (literal_domain text) x.0 r x.1 ranges x.2 e x.3 f))))
@@ -305,7 +306,7 @@ module _ (ms : Members) (s : NamesOp ms (codes "domain")) where
       λ e. all_fine ms o ks s c refl (count_found ms 3 tt n) (named, (fine ms o (codes "is") domain_reader refl tt (ap domain_in at ∙ e), tt)) in
       by_domain (Judged ms) (literal_domain text) (λ l. domain_with d l Whole)
       (λ why e. bad why (unspelled_err (literal_domain text) why e))
-      (λ r e. bind_judged (Judged ms) (domain_within r) (λ ranges. Ok (Change (NewDomain d (Ranges ranges) whole)))
+      (λ r e. bind_judged (Judged ms) (domain_within r) (λ ranges. Ok (of_command (NewDomain d (Ranges ranges) whole)))
       (λ why f. bad why (judged_err (literal_domain text) r why e f)) (λ ranges f. good (judged_ok (literal_domain text) r ranges e f)))
       (λ listed e. good (set_ok (literal_domain text) listed e))
 
@@ -355,17 +356,17 @@ module _ (ms : Members) (s : NamesOp ms (codes "domain")) where
       by_domain (Judged ms) (literal_domain text) (λ l. literal_mapping map >>= (λ m. domain_with d l m))
       unspelled
       (λ r e. bind_judged (Judged ms) (literal_mapping map) (λ m. domain_with d (rectangle r) m) map_unspelled (λ m f.
-      bind_judged (Judged ms) (domain_within r) (λ ranges. mapping_within m >>= (λ layout. Ok (Change (NewDomain d (Ranges ranges) layout))))
+      bind_judged (Judged ms) (domain_within r) (λ ranges. mapping_within m >>= (λ layout. Ok (of_command (NewDomain d (Ranges ranges) layout))))
       (λ why w. let x = rectangle_err r why w in
       refused (codes "is") kinds.domain (string text) refl at too_large why x.0 (text, r, refl, domain_found text (rectangle r) e, x.1)
       (λ g y. domain_spelled_from text (rectangle r) g e (is_fails g y)) (λ g y. mapping_spelled_from map m g f (map_fails g y)))
       (λ ranges w. let fits = judged_ok (literal_domain text) r ranges e w in
-      bind_judged (Judged ms) (mapping_within m) (λ layout. Ok (Change (NewDomain d (Ranges ranges) layout)))
+      bind_judged (Judged ms) (mapping_within m) (λ layout. Ok (of_command (NewDomain d (Ranges ranges) layout)))
       (λ why y. map_bad fits why (mapping_err map m why f y))
       (λ layout y. good fits layout (mapping_ok map m layout f y)))))
       (λ listed e. let fits = set_ok (literal_domain text) listed e in
       bind_judged (Judged ms) (literal_mapping map) (λ m. domain_with d (set listed) m) map_unspelled (λ m f.
-      bind_judged (Judged ms) (mapping_within m) (λ layout. Ok (Change (NewDomain d Indices layout))) (λ why y. map_bad fits why (mapping_err map m why f y))
+      bind_judged (Judged ms) (mapping_within m) (λ layout. Ok (of_command (NewDomain d Indices layout))) (λ why y. map_bad fits why (mapping_err map m why f y))
       (λ layout y. good fits layout (mapping_ok map m layout f y))))
     where
       literal_refusal : (t : List ℕ) (why : Refusal) → literal_domain t ≡ Err why → why ≡ BadLiteral
@@ -507,9 +508,9 @@ made_judged d (Err why) K j = j
 reshape_judged : IsJudged (codes "reshape") reshape_of
 reshape_judged ms s =
     let o = codes "reshape" in
-    one_judged (Judged ms) (has_fields 3 (object ms)) (name_field (codes "d") (object ms)) (λ d. source_of (object ms) >>= (λ y. Ok (Change (Reshape d y))))
+    one_judged (Judged ms) (has_fields 3 (object ms)) (name_field (codes "d") (object ms)) (λ d. source_of (object ms) >>= (λ y. Ok (of_command (Reshape d y))))
     (λ why. count_bad ms o 2 s refl why) (λ why. field_bad ms o (codes "d") s name_reader refl refl why)
-    (λ d n p. made_judged (object ms) (source_of (object ms)) (λ y. Change (Reshape d y))
+    (λ d n p. made_judged (object ms) (source_of (object ms)) (λ y. of_command (Reshape d y))
     (sources_judged ms s (count_found ms 3 tt n) (fine ms o (codes "d") name_reader refl d p)))
 
 -- ---- the ops without a field, or with one that may be missing
@@ -592,7 +593,7 @@ first_judged (x ∷ xs) h ms op s k = elim (bytes_eq op x.0) as
       | false ↦ λ is. first_judged xs h.1 ms op s (λ w. sym (ap (λ (b : Bool). if b then true else has op (names xs)) is) ∙ k w)
     ] refl
 
-every_judged : AllJudged readers
+every_judged : AllJudged singles
 every_judged = (
   domain_judged_of,
   (
@@ -649,7 +650,7 @@ every_judged = (
                                                       piece_judged,
                                                       (
                                                         reduce_judged,
-                                                        (state_judged, (print_judged, (history_judged, (edits_judged, tt)))),
+                                                        (state_judged, (note_judged, (print_judged, (history_judged, (edits_judged, tt))))),
                                                       ),
                                                     ),
                                                   ),
@@ -679,16 +680,19 @@ every_judged = (
   ),
 )
 
--- the op of each form has a reader
-is_read : (ms : Members) (op : List ℕ) → NamesOp ms op → IsWhole (object ms) → has op (names readers) ≡ true
-is_read ms op s w = elim (has op (names readers)) as (λ b. has op (names readers) ≡ b → b ≡ true) [
+-- the op of each form has a reader, but for that of a transaction
+abbrev is_single : List ℕ × List (List ℕ) → Bool
+is_single x = if bytes_eq x.0 (codes "transaction") then true else has x.0 (names singles)
+
+is_read : (ms : Members) (op : List ℕ) → NamesOp ms op → bytes_eq op (codes "transaction") ≡ false → IsWhole (object ms) → has op (names singles) ≡ true
+is_read ms op s other w = elim (has op (names singles)) as (λ b. has op (names singles) ≡ b → b ≡ true) [
   | true ↦ λ e. refl
   | false ↦ λ e. absurd (not_whole_by ms op s (λ ks c h.
-      true_false (sym (All-contains (λ x. has x.0 (names readers) ≡ true) forms (op, ks) (AllPass-from_list_all (λ x. has x.0 (names readers)) forms refl) c) ∙
-      e)) w)
+      true_false (sym (All-contains (λ x. is_single x ≡ true) forms (op, ks) (AllPass-from_list_all is_single forms refl) c)
+      ∙ ap (λ (b : Bool). if b then true else has op (names singles)) other ∙ e)) w)
 ] refl
 
-no_op : (ms : Members) (why : Refusal) (v : Option Data) → get_member (codes "op") ms ≡ v → text_in v ≡ Err why → Refused (object ms) why
+pub no_op : (ms : Members) (why : Refusal) (v : Option Data) → get_member (codes "op") ms ≡ v → text_in v ≡ Err why → Refused (object ms) why
 no_op ms why v g e = first (object ms) why (text_in_only v why e) (not_whole refl (λ w. no_err (sym (named w.0 w.1 (members_same ms w.0 w.3) w.4) ∙ e)))
   where
     text_in_only : (v : Option Data) (why : Refusal) → text_in v ≡ Err why → why ≡ BadRequest
@@ -697,48 +701,9 @@ no_op ms why v g e = first (object ms) why (text_in_only v why e) (not_whole ref
     named : (ns : Members) (op : List ℕ) → ms ≡ ns → NamesOp ns op → text_in v ≡ Ok op
     named ns op m t = text_read v op (sym g ∙ subst (λ ms. NamesOp ms op) (sym m) t)
 
-object_judged : (ms : Members) → Judged ms (request_of (object ms))
-object_judged ms =
-    bind_judged (Judged ms) (text_field (codes "op") (object ms)) (λ op. by_op op (object ms)) (λ why e. no_op ms why (get_member (codes "op") ms) refl e)
-    (λ op e. let s : NamesOp ms op = text_found (get_member (codes "op") ms) op e in first_judged readers every_judged ms op s (is_read ms op s))
+-- an object of any op but that of a transaction
+pub single_judged : (ms : Members) (op : List ℕ) → NamesOp ms op → bytes_eq op (codes "transaction") ≡ false → Judged ms (by_single_op op (object ms))
+single_judged ms op s other = first_judged singles every_judged ms op s (is_read ms op s other)
 
-no_object : (d : Data) → ((ms : Members) → d ≡ object ms → ⊥) → Refused d BadRequest
+pub no_object : (d : Data) → ((ms : Members) → d ≡ object ms → ⊥) → Refused d BadRequest
 no_object d h = first d BadRequest refl (not_whole refl (λ w. h w.0 w.3))
-
-pub request_judged : (d : Data) → Judges d (request_of d)
-request_judged (object ms) = object_judged ms
-request_judged null = no_object null (λ ms e. cc)
-request_judged (boolean b) = no_object (boolean b) (λ ms e. cc)
-request_judged (json_number n) = no_object (json_number n) (λ ms e. cc)
-request_judged (string t) = no_object (string t) (λ ms e. cc)
-request_judged (array ds) = no_object (array ds) (λ ms e. cc)
-
--- ---- the laws
-
-refused_by : (d : Data) (r : Result Request Refusal) (why : Refusal) → Judges d r → r ≡ Err why → Refused d why
-refused_by d (Ok r) why j e = no_err e
-refused_by d (Err w) why j e = subst (Refused d) (err_same w why e) j
-
-pub refused_least : (d : Data) (why : Refusal) → request_of d ≡ Err why → Refused d why
-refused_least d why e = refused_by d (request_of d) why (request_judged d) e
-
-least_by : (d : Data) (r : Result Request Refusal) (why : Refusal) → Judges d r → Refused d why → r ≡ Err why
-least_by d (Ok r) why j h = absurd (j h.0 h.2.0)
-least_by d (Err w) why j h = ap Err (j.1 ∙ refusal_same j.0 h.0 (j.2.1 h.0 h.2.0) (h.2.1 j.0 j.2.0) ∙ sym h.1)
-
-pub least_refused : (d : Data) (why : Refusal) → Refused d why → request_of d ≡ Err why
-least_refused d why h = least_by d (request_of d) why (request_judged d) h
-
-faultless_by : (d : Data) (r : Result Request Refusal) (q : Request) → Judges d r → r ≡ Ok q → NoFault d
-faultless_by d (Ok r) q j e = j
-faultless_by d (Err w) q j e = no_ok w q e
-
-pub read_faultless : (d : Data) → ((r : Request) × (request_of d ≡ Ok r)) → NoFault d
-read_faultless d h = faultless_by d (request_of d) h.0 (request_judged d) h.1
-
-read_by : (d : Data) (r : Result Request Refusal) → Judges d r → NoFault d → (q : Request) × (r ≡ Ok q)
-read_by d (Ok r) j n = (r, refl)
-read_by d (Err w) j n = absurd (n j.0 j.2.0)
-
-pub faultless_read : (d : Data) → NoFault d → (r : Request) × (request_of d ≡ Ok r)
-faultless_read d n = read_by d (request_of d) (request_judged d) n

@@ -1,8 +1,9 @@
 -- Why a JSON value is no request, apart from the order in which it is read: what is wrong with each member, and with the
 -- object itself. The least code among all that is wrong is the answer.
 use Rattle.std.specs.Prelude.{◌≡◌, ◌≢◌, ◌≤◌, ◌⊎◌, ℕ, ℤ, List, [], ◌∷◌, ◌++◌, codes, length, bytes_eq, if◌then◌else◌, true, false, Option, Some, None, Err, Contains}
-use Rattle.serde_json.specs.Data.{Data, string, object, Members, no_members}
-use Rattle.serde_json.specs.Find.{get_member}
+use Rattle.serde_json.specs.Data.{Data, string, array, object, Items, Members, no_members}
+use Rattle.serde_json.specs.Events.{items_len}
+use Rattle.serde_json.specs.Find.{get_item, get_member}
 use Rattle.wb_cells.specs.Cells.{Name}
 use Rattle.wb_cells.specs.Names.{is_name}
 use Rattle.wb_cells.specs.Shapes.{Range, indices}
@@ -10,7 +11,9 @@ use Rattle.wb_cells.specs.declared.values.index.Index.{Index}
 use Rattle.wb_cells.specs.declared.values.index.Index.TheVariants.{Point}
 use Rattle.wb_cells.specs.declared.cells.kind.KeyType.{KeyType}
 use Rattle.wb_edit.specs.declared.operation.Operation.{Operation}
+use Rattle.wb_cells.specs.declared.refusal.Refusal as edits_of
 use Rattle.wb_cells.specs.declared.refusal.Refusal.TheVariants as edits
+use Rattle.wb_edit.specs.Trees.{plain as plain_refusal}
 use Rattle.wb_arrays.specs.declared.reduction.Op.{Op}
 use Rattle.wb_log.specs.declared.refusal.Refusal.{Refusal}
 use Rattle.wb_log.specs.declared.refusal.Refusal.TheVariants.{BadRequest, BadLiteral, Refused}
@@ -47,8 +50,19 @@ code bad_mapping = 15
 abbrev pub refusal_of : Fault → Refusal
 refusal_of bad_request = BadRequest
 refusal_of bad_literal = BadLiteral
-refusal_of too_large = Refused edits.TooLarge
-refusal_of bad_mapping = Refused edits.BadMapping
+refusal_of too_large = Refused (plain_refusal edits.TooLarge)
+refusal_of bad_mapping = Refused (plain_refusal edits.BadMapping)
+
+-- the fault that a refusal tells of
+abbrev pub edit_fault_told : edits_of.Refusal → Fault
+edit_fault_told edits.TooLarge = too_large
+edit_fault_told edits.BadMapping = bad_mapping
+edit_fault_told _ = bad_request
+
+abbrev pub fault_told : Refusal → Fault
+fault_told BadLiteral = bad_literal
+fault_told (Refused e) = edit_fault_told e.why
+fault_told _ = bad_request
 
 -- ---- which members there are
 
@@ -98,6 +112,9 @@ forms =
     ∷ (codes "edits", [])
     ∷ (codes "put", codes "a" ∷ codes "on" ∷ codes "vs" ∷ [])
     ∷ (codes "explain", codes "line" ∷ [])
+    ∷ (codes "note", codes "k" ∷ [])
+    ∷ (codes "transaction", codes "edits" ∷ [])
+    ∷ (codes "transaction", codes "edits" ∷ codes "note" ∷ [])
     ∷ []
 
 -- the members of these keys are there, each once, in any order, and no others
@@ -132,6 +149,10 @@ pub data Plain : Type 0 where
   reduction : Plain
   -- a text, whichever it is
   any_text : Plain
+  -- the note of a transaction
+  note : Plain
+  -- an array of 1 to 4,096 values, whatever they are
+  several : Plain
 
 pub data Kind : Type 0 where
   plain : Plain → Kind
@@ -150,6 +171,7 @@ kinds =
     ∷ (codes "b", plain name)
     ∷ (codes "c", plain integer)
     ∷ (codes "d", plain name)
+    ∷ (codes "edits", plain several)
     ∷ (codes "expand", plain offsets)
     ∷ (codes "from", plain number)
     ∷ (codes "i", plain index)
@@ -160,6 +182,7 @@ kinds =
     ∷ (codes "line", plain any_text)
     ∷ (codes "map", mapping)
     ∷ (codes "minus", source)
+    ∷ (codes "note", plain note)
     ∷ (codes "on", domain)
     ∷ (codes "or", source)
     ∷ (codes "slice", source)
@@ -201,6 +224,8 @@ IsBad (plain key_type) d = (t : KeyType) → Spells d (table.word (table.type_wo
 IsBad (plain operation) d = (how : Operation) → Spells d (table.word (table.operation_word how)) → ⊥
 IsBad (plain reduction) d = (how : Op) → Spells d (table.word (table.reduction_word how)) → ⊥
 IsBad (plain any_text) d = (text : List ℕ) → Spells d (table.word text) → ⊥
+IsBad (plain note) d = (n : List ℕ) → Spells d (table.note n) → ⊥
+IsBad (plain several) d = (ds : Items) → d ≡ array ds → (1 ≤ items_len ds) × (items_len ds ≤ 4096) → ⊥
 IsBad domain d = (text : List ℕ) → d ≡ string text → ⊥
 IsBad mapping d = (text : List ℕ) → d ≡ string text → ⊥
 IsBad workbook d = (text : List ℕ) → d ≡ string text → ⊥
@@ -273,10 +298,40 @@ pub record IsMiscounted (d : Data) : Type 0 where
 
 -- The members aren't those of a request, or the value of one fails, or one has more or fewer numbers than another has indices,
 -- whatever else is wrong.
+pub data IsOwnFault (d : Data) (fault : Fault) : Type 0 where
+  not_whole : fault ≡ bad_request → (IsWhole d → ⊥) → IsOwnFault d fault
+  of_member : MemberFails d fault → IsOwnFault d fault
+  of_count : fault ≡ bad_request → IsMiscounted d → IsOwnFault d fault
+
+-- ---- what is wrong with a command within a transaction
+
+-- an object that names the op of a command
+abbrev pub NamesCommand : Data → Type 0
+NamesCommand d = (ms : Members) × (op : List ℕ) × (d ≡ object ms) × NamesOp ms op × Contains table.command_ops op
+
+-- It is no object of a command's op, or something is wrong with it as an object.
+pub data IsCommandFault (d : Data) (fault : Fault) : Type 0 where
+  no_command : fault ≡ bad_request → (NamesCommand d → ⊥) → IsCommandFault d fault
+  of_command : IsOwnFault d fault → IsCommandFault d fault
+
+-- one of the edits of a transaction is wrong
+pub record EditFails (d : Data) (fault : Fault) : Type 0 where
+  pub members : Members
+  pub listed : Items
+  pub place : ℕ
+  pub value : Data
+  pub is_object : d ≡ object members
+  pub names_op : NamesOp members (codes "transaction")
+  pub is_edits : get_member (codes "edits") members ≡ Some (array listed)
+  pub is_value : get_item place listed ≡ Some value
+  pub fails : IsCommandFault value fault
+
+-- ---- all that is wrong
+
+-- Something is wrong with the object itself, or with one of its edits.
 pub data IsFault (d : Data) (fault : Fault) : Type 0 where
-  not_whole : fault ≡ bad_request → (IsWhole d → ⊥) → IsFault d fault
-  of_member : MemberFails d fault → IsFault d fault
-  of_count : fault ≡ bad_request → IsMiscounted d → IsFault d fault
+  of_own : IsOwnFault d fault → IsFault d fault
+  of_edit : EditFails d fault → IsFault d fault
 
 -- a fault, and no other has a lower code
 abbrev pub IsLeastFault : Data → Fault → Type 0

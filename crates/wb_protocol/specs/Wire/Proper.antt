@@ -12,10 +12,12 @@ use Rattle.wb_literals.specs.Integer.{IsWithin}
 use Rattle.wb_reshape.specs.Sources.{ascending}
 use Rattle.wb_reshape.specs.declared.operand.Operand.{Operand}
 use Rattle.wb_reshape.specs.declared.operand.Operand.TheVariants.{Rectangle, Items, Named}
+use Rattle.wb_edit.specs.declared.command.Command.{Command}
+use Rattle.wb_edit.specs.Transactions.{AreSeveral, is_note}
 use Rattle.wb_text.specs.Texts.Books.{is_book_text}
 use Rattle.wb_protocol.specs.declared.requests.request.Request.{Request}
 use Rattle.wb_protocol.specs.Wire.Table.{Meaning, word, name, integer, number, index, given, mapping, optional_mapping, book, numbers}
-use Rattle.wb_protocol.specs.Wire.Table.{some_set, some_numbers, Fields, table}
+use Rattle.wb_protocol.specs.Wire.Table.{some_set, some_numbers, note, edits, Fields, command_table, table}
 
 abbrev pub AllWithin : List ℤ → Type 0
 AllWithin [] = Unit {0}
@@ -52,23 +54,41 @@ IsProperOperand (Rectangle ranges) = IsRectangle (length ranges) ranges
 IsProperOperand (Items is) = AreAlike is × (ascending is ≡ is)
 IsProperOperand (Named n) = is_name n ≡ true
 
+-- what can be spelled, by which commands can
+abbrev pub IsProperBy : (List Command → Type 0) → Meaning → Type 0
+IsProperBy P (word w) = Unit {0}
+IsProperBy P (name n) = is_name n ≡ true
+IsProperBy P (integer z) = IsWithin z
+IsProperBy P (number k) = Unit {0}
+IsProperBy P (index i) = IsProperIndex i
+IsProperBy P (given g) = IsProperOperand g
+IsProperBy P (mapping m) = IsLayout m
+IsProperBy P (optional_mapping m) = IsLayout m
+IsProperBy P (book text) = is_book_text text ≡ true
+IsProperBy P (numbers on vs) = AllWithin vs × (length vs ≡ length (indices on))
+IsProperBy P some_set = Unit {0}
+IsProperBy P some_numbers = Unit {0}
+IsProperBy P (note n) = is_note n ≡ true
+IsProperBy P (edits cs) = P cs
+
+abbrev pub AreProperBy : (List Command → Type 0) → Fields → Type 0
+AreProperBy P [] = Unit {0}
+AreProperBy P (f ∷ fs) = IsProperBy P f.1 × AreProperBy P fs
+
+-- commands whose members can all be spelled
+abbrev pub AreProperCommands : List Command → Type 0
+AreProperCommands [] = Unit {0}
+AreProperCommands (c ∷ cs) = AreProperBy (λ ds. ⊥) (command_table c) × AreProperCommands cs
+
+-- 1 to 4,096 of them
+abbrev pub AreProperEdits : List Command → Type 0
+AreProperEdits cs = AreProperCommands cs × AreSeveral cs
+
 abbrev pub IsProper : Meaning → Type 0
-IsProper (word w) = Unit {0}
-IsProper (name n) = is_name n ≡ true
-IsProper (integer z) = IsWithin z
-IsProper (number k) = Unit {0}
-IsProper (index i) = IsProperIndex i
-IsProper (given g) = IsProperOperand g
-IsProper (mapping m) = IsLayout m
-IsProper (optional_mapping m) = IsLayout m
-IsProper (book text) = is_book_text text ≡ true
-IsProper (numbers on vs) = AllWithin vs × (length vs ≡ length (indices on))
-IsProper some_set = Unit {0}
-IsProper some_numbers = Unit {0}
+IsProper x = IsProperBy AreProperEdits x
 
 abbrev pub AreProper : Fields → Type 0
-AreProper [] = Unit {0}
-AreProper (f ∷ fs) = IsProper f.1 × AreProper fs
+AreProper fs = AreProperBy AreProperEdits fs
 
 -- a request whose members can all be spelled
 abbrev pub IsProperRequest : Request → Type 0

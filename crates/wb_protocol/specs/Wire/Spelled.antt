@@ -18,10 +18,12 @@ use Rattle.wb_literals.specs.Limits.Mappings.{mapping_within}
 use Rattle.wb_reshape.specs.Sources.{ascending}
 use Rattle.wb_reshape.specs.declared.operand.Operand.{Operand}
 use Rattle.wb_reshape.specs.declared.operand.Operand.TheVariants.{Rectangle, Items, Named}
+use Rattle.wb_edit.specs.declared.command.Command.{Command}
+use Rattle.wb_edit.specs.Transactions.{AreSeveral, is_note}
 use Rattle.wb_text.specs.Texts.Books.{is_book_text}
 use Rattle.wb_protocol.specs.declared.requests.request.Request.{Request}
 use Rattle.wb_protocol.specs.Wire.Table.{Meaning, word, name, integer, number, index, given, mapping, optional_mapping, book, numbers}
-use Rattle.wb_protocol.specs.Wire.Table.{some_set, some_numbers, Fields, table}
+use Rattle.wb_protocol.specs.Wire.Table.{some_set, some_numbers, note, edits, Fields, command_table, table}
 
 -- ---- what one value spells
 
@@ -65,19 +67,22 @@ IsOperand d (Named n) = (d ≡ string n) × (is_name n ≡ true)
 abbrev pub IsMapping : Data → LayoutMap → Type 0
 IsMapping d m = (text : List ℕ) × (literal : MappingLiteral) × (d ≡ string text) × grammar.IsMapping text literal × (mapping_within literal ≡ Ok m)
 
-abbrev pub Spells : Data → Meaning → Type 0
-Spells d (word w) = d ≡ string w
-Spells d (name n) = (d ≡ string n) × (is_name n ≡ true)
-Spells d (integer z) = IsInteger d z
-Spells d (number k) = IsNumber d k
-Spells d (index i) = IsIndex d i
-Spells d (given g) = IsOperand d g
-Spells d (mapping m) = IsMapping d m
-Spells d (optional_mapping m) = IsMapping d m
-Spells d (book text) = (d ≡ string text) × (is_book_text text ≡ true)
-Spells d (numbers on vs) = IsIntegers d vs × (length vs ≡ length (indices on))
-Spells d some_numbers = (vs : List ℤ) × IsIntegers d vs
-Spells d some_set = (text : List ℕ) × (listed : Listed) × (d ≡ string text) × grammar.IsSet text listed
+-- what a value spells, by which values spell commands
+abbrev pub SpellsBy : (Data → List Command → Type 0) → Data → Meaning → Type 0
+SpellsBy E d (word w) = d ≡ string w
+SpellsBy E d (name n) = (d ≡ string n) × (is_name n ≡ true)
+SpellsBy E d (integer z) = IsInteger d z
+SpellsBy E d (number k) = IsNumber d k
+SpellsBy E d (index i) = IsIndex d i
+SpellsBy E d (given g) = IsOperand d g
+SpellsBy E d (mapping m) = IsMapping d m
+SpellsBy E d (optional_mapping m) = IsMapping d m
+SpellsBy E d (book text) = (d ≡ string text) × (is_book_text text ≡ true)
+SpellsBy E d (numbers on vs) = IsIntegers d vs × (length vs ≡ length (indices on))
+SpellsBy E d some_numbers = (vs : List ℤ) × IsIntegers d vs
+SpellsBy E d some_set = (text : List ℕ) × (listed : Listed) × (d ≡ string text) × grammar.IsSet text listed
+SpellsBy E d (note n) = (d ≡ string n) × (is_note n ≡ true)
+SpellsBy E d (edits cs) = E d cs
 
 -- what a missing member spells
 abbrev pub MayLack : Meaning → Type 0
@@ -93,11 +98,13 @@ MayLack (book text) = ⊥
 MayLack (numbers on vs) = ⊥
 MayLack some_set = ⊥
 MayLack some_numbers = ⊥
+MayLack (note n) = ⊥
+MayLack (edits cs) = ⊥
 
 -- what a member spells, if there is one
-abbrev pub Says : Option Data → Meaning → Type 0
-Says (Some d) x = Spells d x
-Says None x = MayLack x
+abbrev pub SaysBy : (Data → List Command → Type 0) → Option Data → Meaning → Type 0
+SaysBy E (Some d) x = SpellsBy E d x
+SaysBy E None x = MayLack x
 
 -- ---- what an object says
 
@@ -107,9 +114,37 @@ without k no_members = no_members
 without k (member l d ms) = if bytes_eq k l then ms else member l d (without k ms)
 
 -- The fields are there, in any order, each saying what it has to, and no other members.
+abbrev pub HasFieldsBy : (Data → List Command → Type 0) → Members → Fields → Type 0
+HasFieldsBy E ms [] = ms ≡ no_members
+HasFieldsBy E ms (f ∷ fs) = SaysBy E (get_member f.0 ms) f.1 × HasFieldsBy E (without f.0 ms) fs
+
+-- ---- commands within a transaction
+
+-- A JSON value that is the request of a command. No member of it spells commands.
+abbrev pub IsCommand : Data → Command → Type 0
+IsCommand d c = (ms : Members) × (d ≡ object ms) × HasFieldsBy (λ v cs. ⊥) ms (command_table c)
+
+-- such values, one after another
+abbrev pub AreCommands : JsonItems → List Command → Type 0
+AreCommands no_items [] = Unit {0}
+AreCommands (item d ds) (c ∷ cs) = IsCommand d c × AreCommands ds cs
+AreCommands no_items (c ∷ cs) = ⊥
+AreCommands (item d ds) [] = ⊥
+
+-- an array of 1 to 4,096 of them
+abbrev pub IsEdits : Data → List Command → Type 0
+IsEdits d cs = (ds : JsonItems) × (d ≡ array ds) × AreCommands ds cs × AreSeveral cs
+
+-- ---- requests
+
+abbrev pub Spells : Data → Meaning → Type 0
+Spells d x = SpellsBy IsEdits d x
+
+abbrev pub Says : Option Data → Meaning → Type 0
+Says o x = SaysBy IsEdits o x
+
 abbrev pub HasFields : Members → Fields → Type 0
-HasFields ms [] = ms ≡ no_members
-HasFields ms (f ∷ fs) = Says (get_member f.0 ms) f.1 × HasFields (without f.0 ms) fs
+HasFields ms fs = HasFieldsBy IsEdits ms fs
 
 -- a JSON value that is the request
 abbrev pub IsRequest : Data → Request → Type 0

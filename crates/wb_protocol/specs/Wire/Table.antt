@@ -2,14 +2,14 @@
 -- value of each has to spell.
 use Rattle.std.specs.Prelude.{ℕ, List, [], ◌∷◌, codes, Some, None}
 use Rattle.wb_protocol.specs.Encoding.Table.{edit_table}
-use Rattle.wb_history.specs.declared.query.Query.TheVariants.{Get, Size, Where, Piece, Reduce, State}
+use Rattle.wb_history.specs.declared.query.Query.TheVariants.{Get, Size, Where, Piece, Reduce, State, Note}
 use Rattle.wb_arrays.specs.declared.reduction.Op.{Op}
 use Rattle.wb_arrays.specs.declared.reduction.Op.TheVariants as reductions
 use Rattle.wb_protocol.specs.declared.requests.request.Request.{Request}
 use Rattle.wb_protocol.specs.declared.requests.request.Request.TheVariants.{Change, Undo, Redo, Cascade, Dependents, Ask, Print, History, Edits, Explain}
 pub use Rattle.wb_protocol.specs.Encoding.Table.{Meaning, word, name, integer, number, index}
-pub use Rattle.wb_protocol.specs.Encoding.Table.{given, mapping, optional_mapping, book, numbers, some_set, some_numbers}
-pub use Rattle.wb_protocol.specs.Encoding.Table.{Fields, op, type_word, operation_word}
+pub use Rattle.wb_protocol.specs.Encoding.Table.{given, mapping, optional_mapping, book, numbers, some_set, some_numbers, note, edits}
+pub use Rattle.wb_protocol.specs.Encoding.Table.{Fields, op, type_word, operation_word, command_ops, command_table, transaction_table}
 
 abbrev pub reduction_word : Op → List ℕ
 reduction_word reductions.Sum = codes "+"
@@ -30,6 +30,7 @@ table (Ask (Size d)) = (codes "d", name d) ∷ op (codes "size") ∷ []
 table (Ask (Piece a l)) = (codes "a", name a) ∷ (codes "l", number l) ∷ op (codes "piece") ∷ []
 table (Ask (Reduce a how)) = (codes "a", name a) ∷ (codes "how", word (reduction_word how)) ∷ op (codes "reduce") ∷ []
 table (Ask (State k)) = (codes "k", number k) ∷ op (codes "state") ∷ []
+table (Ask (Note k)) = (codes "k", number k) ∷ op (codes "note") ∷ []
 table Print = op (codes "print") ∷ []
 table (History None) = op (codes "history") ∷ []
 table (History (Some k)) = (codes "from", number k) ∷ op (codes "history") ∷ []

@@ -166,3 +166,18 @@ pub(crate) fn exchanged(alloc: Global, d: &Name, other: &str) -> Result<Value, A
 {
     json!(in alloc; {"d": d.as_str(), "op": "reshape", "xor": other})
 }
+
+/// The members `edits`, `note` and `op`.
+pub(crate) fn noted(alloc: Global, edits: &Value, note: &str) -> Result<Value, AllocError>
+    ensures { IfOk result (λ v. view v ≡ object (member (codes "edits") (view edits.now)
+        (member (codes "note") (string note.now) (member (codes "op") (string (codes "transaction")) no_members)))) }
+{
+    json!(in alloc; {"edits": edits, "note": note, "op": "transaction"})
+}
+
+/// The members `edits` and `op`.
+pub(crate) fn unnoted(alloc: Global, edits: &Value) -> Result<Value, AllocError>
+    ensures { IfOk result (λ v. view v ≡ object (member (codes "edits") (view edits.now) (member (codes "op") (string (codes "transaction")) no_members))) }
+{
+    json!(in alloc; {"edits": edits, "op": "transaction"})
+}

@@ -1,8 +1,8 @@
 // Requests for a new value of a domain, by where it comes from.
 ghost use Rattle.std.specs.Prelude.{◌≡◌, IfOk};
 ghost use Rattle.serde_json.specs.View.{view};
-ghost use Rattle.wb_edit.specs.declared.edit.Edit.TheVariants.{Reshape};
-ghost use Rattle.wb_protocol.specs.Encoding.Encoded.{edit_data};
+ghost use Rattle.wb_edit.specs.declared.command.Command.TheVariants.{Reshape};
+ghost use Rattle.wb_protocol.specs.Encoding.Encoded.{command_data};
 ghost use Rattle.wb_reshape.specs.declared.new_indices.NewIndices.TheVariants.{Displace as displace, Combine as combine};
 
 use crate::encoding::literals::{given_text, index_value};
@@ -18,7 +18,7 @@ fn displaced(
     how: Displacement,
     offsets: &Point,
 ) -> Result<Value, AllocError>
-    ensures { IfOk result (λ v. view v ≡ edit_data (Reshape d.now (displace how offsets.now))) }
+    ensures { IfOk result (λ v. view v ≡ command_data (Reshape d.now (displace how offsets.now))) }
 {
     let offsets = index_value(alloc, &AnyIndex::new(Index::Point(*offsets)))?;
     match how {
@@ -38,7 +38,7 @@ fn combined(
     how: SetOperation,
     given: &Operand,
 ) -> Result<Value, AllocError>
-    ensures { IfOk result (λ v. view v ≡ edit_data (Reshape d.now (combine how given.now))) }
+    ensures { IfOk result (λ v. view v ≡ command_data (Reshape d.now (combine how given.now))) }
 {
     let given = given_text(alloc, given)?;
     match how {
@@ -51,7 +51,7 @@ fn combined(
 
 /// A new value of a domain.
 pub(crate) fn reshaped(alloc: Global, d: &Name, source: &NewIndices) -> Result<Value, AllocError>
-    ensures { IfOk result (λ v. view v ≡ edit_data (Reshape d.now source.now)) }
+    ensures { IfOk result (λ v. view v ≡ command_data (Reshape d.now source.now)) }
 {
     match source {
         NewIndices::To(given) => {

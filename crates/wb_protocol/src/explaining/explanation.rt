@@ -1,6 +1,6 @@
 ghost use Rattle.std.specs.Prelude.{◌≡◌, option_map, IfOk, Some};
 ghost use Rattle.std.specs.Bool.{Decides};
-ghost use Rattle.wb_protocol.specs.Explained.{of_whole, at_field, rule_text, lesser, least_of};
+ghost use Rattle.wb_protocol.specs.Explained.{of_whole, at_field, at_place, rule_text, lesser, least_of};
 ghost use Rattle.wb_protocol.specs.Said.{said_fault, said_rule};
 ghost use Rattle.wb_protocol.specs.Wire.Faults.{code, refusal_of};
 
@@ -11,13 +11,14 @@ use std::marker::Model;
 use wb_history::Refusal;
 use wb_range::NoMemory;
 
-/// What is wrong with a line: the code that it is refused by, the field, and the rule that this breaks. Contracts see these
-/// three.
+/// What is wrong with a line: the code that it is refused by, the field, and the rule that this breaks, and of a command within a
+/// transaction its place. Contracts see these four.
 #[derive(Debug, Drop)]
 pub struct Explanation {
     fault: Fault,
     field: Option<String>,
     rule: Rule,
+    at: Option<usize>,
 }
 
 impl Model for Explanation {
@@ -27,7 +28,7 @@ impl Model for Explanation {
 
     ghost Value = { told.Explanation };
 
-    ghost view = { λ a. record { fault = said_fault a.fault; field = option_map string_bytes a.field; rule = said_rule a.rule } };
+    ghost view = { λ a. record { fault = said_fault a.fault; field = option_map string_bytes a.field; rule = said_rule a.rule; at = a.at } };
 }
 
 impl Explanation {
@@ -39,6 +40,7 @@ impl Explanation {
             fault: Fault::BadRequest,
             field: None,
             rule,
+            at: None,
         }
     }
 
@@ -56,7 +58,20 @@ impl Explanation {
             fault,
             field: Some(field),
             rule,
+            at: None,
         })
+    }
+
+    /// The same, told of the command at a place within a transaction.
+    pub(crate) fn at_place(self, place: usize) -> Explanation
+        ensures { result ≡ at_place place self }
+    {
+        Explanation {
+            fault: self.fault,
+            field: self.field,
+            rule: self.rule,
+            at: Some(place),
+        }
     }
 
     /// The refusal of the line.
@@ -74,6 +89,13 @@ impl Explanation {
             Some(field) => Some(field.as_str()),
             None => None,
         }
+    }
+
+    /// The place of the command that is wrong within a transaction, if it is one.
+    pub fn at(&self) -> Option<usize>
+        ensures { result ≡ self.now.at }
+    {
+        self.at
     }
 
     /// What is wanted.
@@ -102,6 +124,7 @@ impl Explanation {
             fault: self.fault,
             field,
             rule: self.rule,
+            at: self.at,
         })
     }
 
@@ -115,11 +138,24 @@ impl Explanation {
         if !self.rule.is_same(other.rule) {
             return false;
         }
+        if !is_same_place(self.at, other.at) {
+            return false;
+        }
         match (&self.field, &other.field) {
             (Some(field), Some(by)) => field.as_str() == by.as_str(),
             (None, None) => true,
             _ => false,
         }
+    }
+}
+
+fn is_same_place(at: Option<usize>, by: Option<usize>) -> bool
+    ensures { Decides result (at ≡ by) }
+{
+    match (at, by) {
+        (Some(at), Some(by)) => at == by,
+        (None, None) => true,
+        _ => false,
     }
 }
 

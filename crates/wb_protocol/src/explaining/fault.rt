@@ -3,6 +3,7 @@ ghost use Rattle.std.specs.Bool.{Decides};
 ghost use Rattle.wb_protocol.specs.Said.{said_fault};
 ghost use Rattle.wb_protocol.specs.Wire.Faults.{code, refusal_of};
 
+use crate::requests::literals::of_edit;
 use wb_history::Refusal;
 
 /// What can be wrong with a line, by the code of its refusal.
@@ -38,8 +39,8 @@ impl Fault {
         match self {
             Fault::BadRequest => Refusal::BadRequest,
             Fault::BadLiteral => Refusal::BadLiteral,
-            Fault::TooLarge => Refusal::Refused(wb_cells::Refusal::TooLarge),
-            Fault::BadMapping => Refusal::Refused(wb_cells::Refusal::BadMapping),
+            Fault::TooLarge => of_edit(wb_cells::Refusal::TooLarge),
+            Fault::BadMapping => of_edit(wb_cells::Refusal::BadMapping),
         }
     }
 

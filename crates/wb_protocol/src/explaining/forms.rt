@@ -8,7 +8,7 @@ use wb_range::NoMemory;
 
 type Form = (&'static str, &'static [&'static str]);
 
-static FORMS: [Form; 42] = [
+static FORMS: [Form; 45] = [
     ("domain", &["d", "is"]),
     ("domain", &["d", "is", "map"]),
     ("sparse", &["d", "of"]),
@@ -51,6 +51,9 @@ static FORMS: [Form; 42] = [
     ("edits", &[]),
     ("put", &["a", "on", "vs"]),
     ("explain", &["line"]),
+    ("note", &["k"]),
+    ("transaction", &["edits"]),
+    ("transaction", &["edits", "note"]),
 ];
 
 fn all_forms() -> &'static [Form]

@@ -27,6 +27,10 @@ pub(crate) enum Kind {
     Reduction,
     /// A text, whichever it is.
     AnyText,
+    /// The note of a transaction.
+    Note,
+    /// An array of 1 to 4,096 values.
+    Several,
     /// The literal of a rectangle or of a set.
     Domain,
     /// The literal of a mapping.
@@ -53,6 +57,8 @@ impl Kind {
             (Kind::Operation, Kind::Operation) => true,
             (Kind::Reduction, Kind::Reduction) => true,
             (Kind::AnyText, Kind::AnyText) => true,
+            (Kind::Note, Kind::Note) => true,
+            (Kind::Several, Kind::Several) => true,
             (Kind::Domain, Kind::Domain) => true,
             (Kind::Mapping, Kind::Mapping) => true,
             (Kind::Source, Kind::Source) => true,
@@ -72,6 +78,7 @@ fn kind_in(key: &str) -> Option<Kind>
         "b" => Some(Kind::Name),
         "c" => Some(Kind::Integer),
         "d" => Some(Kind::Name),
+        "edits" => Some(Kind::Several),
         "expand" => Some(Kind::Offsets),
         "from" => Some(Kind::Number),
         "i" => Some(Kind::Index),
@@ -82,6 +89,7 @@ fn kind_in(key: &str) -> Option<Kind>
         "line" => Some(Kind::AnyText),
         "map" => Some(Kind::Mapping),
         "minus" => Some(Kind::Source),
+        "note" => Some(Kind::Note),
         "on" => Some(Kind::Domain),
         "or" => Some(Kind::Source),
         "slice" => Some(Kind::Source),

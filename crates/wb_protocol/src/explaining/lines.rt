@@ -1,65 +1,26 @@
 // What is wrong with a line.
-ghost use Rattle.std.specs.Prelude.{◌≡◌, codes, map, IfOk, Some};
+ghost use Rattle.std.specs.Prelude.{◌≡◌, codes, IfOk, Some};
 ghost use Rattle.std.specs.Bool.{Decides};
 ghost use Rattle.serde_json.specs.Errors.{IsMemory};
 ghost use Rattle.serde_json.specs.View.{view};
-ghost use Rattle.wb_protocol.specs.Explained.{members_in, form_in, foreign_in, missing_in, formless_by, forms_of, formed, op_explained, data_explained, explained, of_field, names_op};
-ghost use Rattle.wb_protocol.specs.Wire.Faults.{forms};
+ghost use Rattle.wb_protocol.specs.Explained.{members_in, op_named, data_explained, explained};
 
-use crate::explaining::counts::op_counted;
-use crate::explaining::explanation::{Explanation, least_of};
-use crate::explaining::fault::Fault;
-use crate::explaining::forms::forms_of;
-use crate::explaining::keys::{form_in, formless};
+use crate::explaining::commands::edits_explained;
+use crate::explaining::explanation::Explanation;
 use crate::explaining::members::member;
+use crate::explaining::objects::{no_op, op_explained};
 use crate::explaining::rules::Rule;
-use crate::explaining::values::values_explained;
 use serde_json::{Category, Error, Value};
 use std::alloc::Global;
 use wb_range::NoMemory;
 
-// What is wrong with an object by the forms of its op, of which one is the first.
-fn formed(
-    alloc: Global,
-    op: &str,
-    value: &Value,
-    first: &[&'static str],
-    of_op: &[&'static [&'static str]],
-) -> Result<Option<Explanation>, NoMemory>
-    ensures { IfOk result (λ x. x ≡ formed (members_in (view value.now)) op.now
-        (form_in (members_in (view value.now)) (map (λ f. map (λ k. k.now) f.now) of_op.now))
-        (formless_by
-        (foreign_in (map (λ f. map (λ k. k.now) f.now) of_op.now) (members_in (view value.now)))
-        (missing_in (map (λ f. map (λ k. k.now) f.now) of_op.now) (members_in (view value.now)) (map (λ k. k.now) first.now)))) }
+// What is wrong with an object of an op, and else with the commands within it.
+fn op_named(alloc: Global, op: &str, value: &Value) -> Result<Option<Explanation>, NoMemory>
+    ensures { IfOk result (λ x. x ≡ op_named (members_in (view value.now)) (Some op.now)) }
 {
-    match form_in(value, of_op) {
-        Some(keys) => {
-            let wrong = values_explained(alloc, op, value, keys)?;
-            let count = op_counted(alloc, op, value)?;
-            Ok(least_of(wrong, count))
-        }
-        None => {
-            let wrong = formless(alloc, value, first, of_op)?;
-            Ok(Some(wrong))
-        }
-    }
-}
-
-// What is wrong with the op.
-fn no_op(alloc: Global) -> Result<Option<Explanation>, NoMemory>
-    ensures { IfOk result (λ x. x ≡ Some (of_field (codes "op") names_op)) }
-{
-    let wrong = Explanation::at_field(alloc, Fault::BadRequest, "op", Rule::NamesOp)?;
-    Ok(Some(wrong))
-}
-
-fn op_explained(alloc: Global, op: &str, value: &Value) -> Result<Option<Explanation>, NoMemory>
-    ensures { IfOk result (λ x. x ≡ op_explained (members_in (view value.now)) op.now (forms_of op.now forms)) }
-{
-    let forms = forms_of(alloc, op)?;
-    match forms.as_slice() {
-        [] => no_op(alloc),
-        [first, ..] => formed(alloc, op, value, first, forms.as_slice()),
+    match op_explained(alloc, op, value)? {
+        Some(wrong) => Ok(Some(wrong)),
+        None => edits_explained(alloc, op, value),
     }
 }
 
@@ -71,7 +32,7 @@ fn data_explained(alloc: Global, value: &Value) -> Result<Option<Explanation>, N
         return Ok(Some(Explanation::of_whole(Rule::IsObject)));
     }
     match member(value, "op").and_then(Value::as_str) {
-        Some(op) => op_explained(alloc, op, value),
+        Some(op) => op_named(alloc, op, value),
         None => no_op(alloc),
     }
 }

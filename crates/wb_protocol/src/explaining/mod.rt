@@ -1,5 +1,6 @@
 //! What is wrong with a line: the field, and the rule that it breaks (`specs/Explained.antt`).
 
+mod commands;
 mod counts;
 pub mod explanation;
 pub mod fault;
@@ -8,7 +9,8 @@ mod keys;
 mod kinds;
 mod lines;
 mod members;
+mod objects;
 mod rules;
-mod values;
+pub mod values;
 
 pub(crate) use crate::explaining::lines::explained;

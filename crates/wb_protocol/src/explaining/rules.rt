@@ -26,6 +26,8 @@ pub(crate) enum Rule {
     Spells(Kind),
     /// A `put` has as many numbers as indices.
     AreCounted,
+    /// The op of a command within a transaction is that of a command.
+    NamesCommand,
 }
 
 impl Rule {
@@ -42,6 +44,7 @@ impl Rule {
             (Rule::HasOneOf, Rule::HasOneOf) => true,
             (Rule::Spells(kind), Rule::Spells(by)) => kind.is_same(by),
             (Rule::AreCounted, Rule::AreCounted) => true,
+            (Rule::NamesCommand, Rule::NamesCommand) => true,
             _ => false,
         }
     }
@@ -61,6 +64,7 @@ impl Rule {
             }
             Rule::Spells(kind) => spelled_rule(kind, fault),
             Rule::AreCounted => "as many numbers as the rectangle has indices",
+            Rule::NamesCommand => "an op that changes a domain or an array",
         }
     }
 }
@@ -101,6 +105,10 @@ fn spelled_rule(kind: Kind, fault: Fault) -> &'static str
         Kind::Operation => "=, +, - or *",
         Kind::Reduction => "+, min or max",
         Kind::AnyText => "a text",
+        Kind::Note => {
+            "a text of at most 256 bytes without quotes, backslashes and control characters"
+        }
+        Kind::Several => "an array of 1 to 4096 edits",
         Kind::Domain => literal_rule(
             "a text",
             "a rectangle or a set, as {1..9} or {1, 5}",

@@ -1,9 +1,9 @@
 // What is wrong with values, by what each has to spell.
 ghost use Rattle.std.specs.Prelude.{◌≡◌, ◌≢◌, option_map, map, IfOk};
 ghost use Rattle.serde_json.specs.View.{view};
-ghost use Rattle.wb_protocol.specs.Explained.{members_in, fault_told, fault_of, value_explained, values_explained};
+ghost use Rattle.wb_protocol.specs.Explained.{members_in, fault_of, value_explained, values_explained};
 ghost use Rattle.wb_protocol.specs.Said.{IsJudged, said_edit_fault, said_fault, said_kind};
-ghost use Rattle.wb_protocol.specs.Wire.Faults.{plain, name, integer, number, index, integers, offsets, key_type, operation, reduction, any_text};
+ghost use Rattle.wb_protocol.specs.Wire.Faults.{fault_told, plain, name, integer, number, index, integers, offsets, key_type, operation, reduction, any_text, note, several};
 ghost use Rattle.wb_protocol.specs.Wire.Faults as kinds;
 
 use crate::explaining::explanation::{Explanation, least_of};
@@ -13,7 +13,7 @@ use crate::explaining::members::{member, text_of};
 use crate::explaining::rules::Rule;
 use crate::requests::books::text_of_book;
 use crate::requests::fields::{
-    index_of, integers_of, key_type_of, name_of, operation_of, reduction_of,
+    index_of, integers_of, key_type_of, name_of, note_in, operation_of, reduction_of, several_of,
 };
 use crate::requests::literals::{domain_within, literal_domain, literal_mapping, mapping_within};
 use crate::requests::sources::{given_by, offsets_by};
@@ -48,7 +48,7 @@ pub(crate) fn fault_told(why: Refusal) -> Result<Fault, NoMemory>
 {
     match why {
         Refusal::BadLiteral => Ok(Fault::BadLiteral),
-        Refusal::Refused(why) => Ok(edit_fault(why)),
+        Refusal::Refused(refused) => Ok(edit_fault(refused.why)),
         Refusal::NoMemory => Err(NoMemory),
         Refusal::BadRequest
         | Refusal::NoSuchEdit
@@ -140,6 +140,23 @@ fn judge_text(value: &Value) -> Result<(), Refusal>
     Ok(())
 }
 
+fn judge_note(alloc: Global, value: &Value) -> Result<(), Refusal>
+    ensures { IsJudged (fault_of (plain note) (view value.now)) result }
+{
+    let text = text_of(value)?;
+    note_in(alloc, text)?;
+    Ok(())
+}
+
+fn judge_several(value: &Value) -> Result<(), Refusal>
+    ensures { IsJudged (fault_of (plain several) (view value.now)) result }
+{
+    match several_of(value) {
+        Some(_) => Ok(()),
+        None => Err(Refusal::BadRequest),
+    }
+}
+
 fn judge_domain(alloc: Global, value: &Value) -> Result<(), Refusal>
     ensures { IsJudged (fault_of kinds.domain (view value.now)) result }
 {
@@ -193,6 +210,8 @@ fn judge(alloc: Global, kind: Kind, value: &Value) -> Result<(), Refusal>
         Kind::Operation => judge_operation(value),
         Kind::Reduction => judge_reduction(value),
         Kind::AnyText => judge_text(value),
+        Kind::Note => judge_note(alloc, value),
+        Kind::Several => judge_several(value),
         Kind::Domain => judge_domain(alloc, value),
         Kind::Mapping => judge_mapping(value),
         Kind::Source => judge_source(alloc, value),

@@ -1,6 +1,6 @@
 // The text of what is wrong with a line.
 ghost use Rattle.std.specs.Prelude.{◌≡◌, codes, option_map, IfOk, Some, string_bytes};
-ghost use Rattle.serde_json.specs.Data.{object, string, member, no_members};
+ghost use Rattle.serde_json.specs.Data.{object, number, unsigned, string, member, no_members};
 ghost use Rattle.serde_json.specs.View.{view};
 ghost use Rattle.wb_protocol.specs.Replies.{field_data, wrong_data, reply_data, reply_of};
 ghost use Rattle.wb_protocol.specs.declared.replies.reply.Reply.TheVariants.{Explained};
@@ -33,13 +33,32 @@ fn object_value(
     json!(in alloc; {"error": error, "field": field, "name": name, "rule": rule})
 }
 
+// The same with the place of a command.
+fn placed_value(
+    alloc: Global,
+    at: usize,
+    error: &str,
+    field: &Value,
+    name: &str,
+    rule: &str,
+) -> Result<Value, AllocError>
+    ensures { IfOk result (λ v. view v ≡ object (member (codes "at") (number (unsigned at)) (member (codes "error") (string error.now) (member (codes "field") (view field.now)
+        (member (codes "name") (string name.now) (member (codes "rule") (string rule.now) no_members)))))) }
+{
+    let at = at as u64;
+    json!(in alloc; {"at": at, "error": error, "field": field, "name": name, "rule": rule})
+}
+
 // What is wrong.
 fn wrong_value(alloc: Global, wrong: &Explanation) -> Result<Value, AllocError>
     ensures { IfOk result (λ v. view v ≡ wrong_data (Some wrong.now)) }
 {
     let field = field_value(alloc, wrong.field())?;
     let why = wrong.refusal();
-    object_value(alloc, code_of(why), &field, name_of(why), wrong.rule())
+    match wrong.at() {
+        Some(at) => placed_value(alloc, at, code_of(why), &field, name_of(why), wrong.rule()),
+        None => object_value(alloc, code_of(why), &field, name_of(why), wrong.rule()),
+    }
 }
 
 fn explained_value(alloc: Global, wrong: &Option<Explanation>) -> Result<Value, AllocError>

@@ -1,9 +1,10 @@
 // The texts of replies: compact JSON, keys in ascending order.
 ghost use Rattle.std.specs.Prelude.{◌≡◌, codes, IfOk, string_bytes};
-ghost use Rattle.serde_json.specs.Data.{object, string, member, no_members};
+ghost use Rattle.serde_json.specs.Data.{object, number, unsigned, string, member, no_members};
 ghost use Rattle.serde_json.specs.View.{view};
 ghost use Rattle.serde_json.specs.Written.{compact_text};
-ghost use Rattle.wb_log.specs.declared.refusal.Refusal.TheVariants.{Blocked};
+ghost use Rattle.wb_log.specs.declared.refusal.Refusal.TheVariants.{Blocked, Refused, RefusedInPlace};
+ghost use Rattle.wb_history.specs.declared.query.Answer.TheVariants.{Note as NoteIs};
 ghost use Rattle.wb_protocol.specs.Printed.{numbers_text, value_text, size_text, locale_text, in_force_text};
 ghost use Rattle.wb_protocol.specs.Replies.{edit_code, edit_name, code_of, name_of, refusal_data, answer_data, reply_data, reply_of};
 ghost use Rattle.wb_protocol.specs.declared.replies.reply.Reply.TheVariants.{Printed, PrintedFrom};
@@ -14,6 +15,8 @@ use crate::replies::pieces::piece_text;
 use crate::replies::reply::Reply;
 use serde_json::{Value, json};
 use std::alloc::{AllocError, Global};
+use wb_cells::EditRefusal;
+use wb_edit::Note;
 use wb_history::{Answer, Refusal};
 use wb_range::NoMemory;
 
@@ -63,7 +66,7 @@ pub(crate) fn code_of(refusal: Refusal) -> &'static str
     match refusal {
         Refusal::BadRequest => "E01",
         Refusal::BadLiteral => "E02",
-        Refusal::Refused(why) => edit_code(why),
+        Refusal::Refused(refused) => edit_code(refused.why),
         Refusal::NoSuchEdit => "E11",
         Refusal::NotInForce => "E12",
         Refusal::InForce => "E13",
@@ -81,7 +84,7 @@ pub(crate) fn name_of(refusal: Refusal) -> &'static str
     match refusal {
         Refusal::BadRequest => "bad-request",
         Refusal::BadLiteral => "bad-literal",
-        Refusal::Refused(why) => edit_name(why),
+        Refusal::Refused(refused) => edit_name(refused.why),
         Refusal::NoSuchEdit => "no-such-edit",
         Refusal::NotInForce => "not-in-force",
         Refusal::InForce => "in-force",
@@ -99,11 +102,39 @@ fn named_value(alloc: Global, error: &str, name: &str) -> Result<Value, AllocErr
     json!(in alloc; {"error": error, "name": name})
 }
 
+// The object of a refused transaction, by the place of its command.
+fn placed_value(alloc: Global, at: u64, error: &str, name: &str) -> Result<Value, AllocError>
+    ensures { IfOk result (λ v. view v ≡ object (member (codes "at") (number (unsigned at))
+        (member (codes "error") (string error.now) (member (codes "name") (string name.now) no_members)))) }
+{
+    json!(in alloc; {"at": at, "error": error, "name": name})
+}
+
+// The object of a refused edit.
+fn refused_value(alloc: Global, refused: EditRefusal) -> Result<Value, AllocError>
+    ensures { IfOk result (λ v. view v ≡ refusal_data (Refused refused)) }
+{
+    let error = edit_code(refused.why);
+    let name = edit_name(refused.why);
+    match refused.at {
+        Some(at) => placed_value(alloc, at as u64, error, name),
+        None => named_value(alloc, error, name),
+    }
+}
+
 // The object of a blocked undo or redo, by its blocker.
 fn blocked_value(alloc: Global, by: u64) -> Result<Value, AllocError>
     ensures { IfOk result (λ v. view v ≡ refusal_data (Blocked by)) }
 {
     json!(in alloc; {"by": by, "error": "E14", "name": "blocked"})
+}
+
+// The object of a redo of a transaction which is refused in its place, by the place of its command and the code of why.
+fn placed_in_place_value(alloc: Global, at: u64, code: &str) -> Result<Value, AllocError>
+    ensures { IfOk result (λ v. view v ≡ object (member (codes "at") (number (unsigned at)) (member (codes "code") (string code.now)
+        (member (codes "error") (string (codes "E16")) (member (codes "name") (string (codes "refused-in-place")) no_members))))) }
+{
+    json!(in alloc; {"at": at, "code": code, "error": "E16", "name": "refused-in-place"})
 }
 
 // The object of a redo which is refused in its place, by the code of why.
@@ -114,15 +145,25 @@ fn in_place_value(alloc: Global, code: &str) -> Result<Value, AllocError>
     json!(in alloc; {"code": code, "error": "E16", "name": "refused-in-place"})
 }
 
+fn refused_in_place_value(alloc: Global, refused: EditRefusal) -> Result<Value, AllocError>
+    ensures { IfOk result (λ v. view v ≡ refusal_data (RefusedInPlace refused)) }
+{
+    let code = edit_code(refused.why);
+    match refused.at {
+        Some(at) => placed_in_place_value(alloc, at as u64, code),
+        None => in_place_value(alloc, code),
+    }
+}
+
 fn refusal_value(alloc: Global, refusal: Refusal) -> Result<Value, AllocError>
     ensures { IfOk result (λ v. view v ≡ refusal_data refusal) }
 {
     match refusal {
         Refusal::Blocked(by) => blocked_value(alloc, by),
-        Refusal::RefusedInPlace(why) => in_place_value(alloc, edit_code(why)),
+        Refusal::RefusedInPlace(refused) => refused_in_place_value(alloc, refused),
+        Refusal::Refused(refused) => refused_value(alloc, refused),
         Refusal::BadRequest
         | Refusal::BadLiteral
-        | Refusal::Refused(_)
         | Refusal::NoSuchEdit
         | Refusal::NotInForce
         | Refusal::InForce
@@ -193,6 +234,23 @@ fn in_force_text(alloc: Global, in_force: bool) -> Result<String, AllocError>
     }
 }
 
+// The object of a note, or of none.
+fn note_value(alloc: Global, note: &Option<Note>) -> Result<Value, AllocError>
+    ensures { IfOk result (λ v. view v ≡ answer_data (NoteIs note.now)) }
+{
+    match note {
+        Some(note) => json!(in alloc; {"note": note.as_str()}),
+        None => json!(in alloc; {"note": null}),
+    }
+}
+
+fn note_text(alloc: Global, note: &Option<Note>) -> Result<String, AllocError>
+    ensures { IfOk result (λ s. string_bytes s ≡ compact_text (answer_data (NoteIs note.now))) }
+{
+    let value = note_value(alloc, note)?;
+    value.to_string(alloc)
+}
+
 fn answer_text(alloc: Global, answer: &Answer) -> Result<String, AllocError>
     ensures { IfOk result (λ s. string_bytes s ≡ compact_text (answer_data answer.now)) }
 {
@@ -202,6 +260,7 @@ fn answer_text(alloc: Global, answer: &Answer) -> Result<String, AllocError>
         Answer::Locale(locale) => locale_text(alloc, *locale as u64),
         Answer::Piece(piece) => piece_text(alloc, piece),
         Answer::InForce(in_force) => in_force_text(alloc, *in_force),
+        Answer::Note(note) => note_text(alloc, note),
     }
 }
 

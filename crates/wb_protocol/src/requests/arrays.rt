@@ -13,7 +13,7 @@ use crate::requests::request::Request;
 use serde_json::Value;
 use std::alloc::Global;
 use wb_cells::{AnyRect, Name};
-use wb_edit::{AskedNumbers, AskedRectangle, Edit, NumberedRectangle};
+use wb_edit::{AskedNumbers, AskedRectangle, Command, Edit, NumberedRectangle};
 use wb_history::Refusal;
 use wb_literals::DomainLiteral;
 
@@ -24,7 +24,7 @@ pub(crate) fn array_of(value: &Value) -> Result<Request, Refusal>
     has_fields(value, 3)?;
     let name = name_field(value, "a")?;
     let domain = name_field(value, "d")?;
-    Ok(Request::Change(Edit::Array(name, domain)))
+    Ok(Request::Change(Edit::Command(Command::Array(name, domain))))
 }
 
 /// The end of an array.
@@ -33,7 +33,7 @@ pub(crate) fn drop_array_of(value: &Value) -> Result<Request, Refusal>
 {
     has_fields(value, 2)?;
     let name = name_field(value, "a")?;
-    Ok(Request::Change(Edit::DropArray(name)))
+    Ok(Request::Change(Edit::Command(Command::DropArray(name))))
 }
 
 /// A new element.
@@ -44,7 +44,7 @@ pub(crate) fn set_of(value: &Value) -> Result<Request, Refusal>
     let name = name_field(value, "a")?;
     let index = index_field(value, "i")?;
     let number = i64_field(value, "v")?;
-    Ok(Request::Change(Edit::Set(name, index, number)))
+    Ok(Request::Change(Edit::Command(Command::Set(name, index, number))))
 }
 
 // A number at each index of what a literal spells.
@@ -55,10 +55,10 @@ fn fill_over(name: Name, literal: &DomainLiteral, number: i64) -> Result<Request
         DomainLiteral::Rectangle(rectangle) => {
             let ranges = domain_within(rectangle)?;
             let asked = AskedRectangle::Ranges(ranges);
-            Ok(Request::Change(Edit::Fill(name, asked, number)))
+            Ok(Request::Change(Edit::Command(Command::Fill(name, asked, number))))
         }
         DomainLiteral::Set(_) => {
-            Ok(Request::Change(Edit::Fill(name, AskedRectangle::Indices, number)))
+            Ok(Request::Change(Edit::Command(Command::Fill(name, AskedRectangle::Indices, number))))
         }
     }
 }
@@ -83,7 +83,7 @@ fn put_on(name: Name, on: AnyRect, numbers: Vec<i64>) -> Result<Request, Refusal
     match NumberedRectangle::new(on, numbers) {
         Some(numbered) => {
             let asked = AskedNumbers::Rectangle(numbered);
-            Ok(Request::Change(Edit::Put(name, asked)))
+            Ok(Request::Change(Edit::Command(Command::Put(name, asked))))
         }
         None => Err(Refusal::BadRequest),
     }
@@ -98,7 +98,10 @@ fn put_over(name: Name, literal: &DomainLiteral, numbers: Vec<i64>) -> Result<Re
             let ranges = domain_within(rectangle)?;
             put_on(name, ranges, numbers)
         }
-        DomainLiteral::Set(_) => Ok(Request::Change(Edit::Put(name, AskedNumbers::Indices))),
+        DomainLiteral::Set(_) => Ok(Request::Change(Edit::Command(Command::Put(
+            name,
+            AskedNumbers::Indices,
+        )))),
     }
 }
 
@@ -122,7 +125,7 @@ pub(crate) fn fill_all_of(value: &Value) -> Result<Request, Refusal>
     has_fields(value, 3)?;
     let name = name_field(value, "a")?;
     let number = i64_field(value, "v")?;
-    Ok(Request::Change(Edit::FillAll(name, number)))
+    Ok(Request::Change(Edit::Command(Command::FillAll(name, number))))
 }
 
 /// An element that becomes another one and a number more.
@@ -135,7 +138,7 @@ pub(crate) fn copy_of(value: &Value) -> Result<Request, Refusal>
     let source = name_field(value, "b")?;
     let place = index_field(value, "j")?;
     let more = i64_field(value, "c")?;
-    Ok(Request::Change(Edit::Copy(name, index, source, place, more)))
+    Ok(Request::Change(Edit::Command(Command::Copy(name, index, source, place, more))))
 }
 
 /// A new implicit value.
@@ -145,7 +148,7 @@ pub(crate) fn irv_of(value: &Value) -> Result<Request, Refusal>
     has_fields(value, 3)?;
     let name = name_field(value, "a")?;
     let number = i64_field(value, "v")?;
-    Ok(Request::Change(Edit::Irv(name, number)))
+    Ok(Request::Change(Edit::Command(Command::Irv(name, number))))
 }
 
 /// The elements of an array by those of another.
@@ -156,5 +159,5 @@ pub(crate) fn all_of(value: &Value) -> Result<Request, Refusal>
     let name = name_field(value, "a")?;
     let how = operation_field(value, "how")?;
     let other = name_field(value, "b")?;
-    Ok(Request::Change(Edit::All(name, how, other)))
+    Ok(Request::Change(Edit::Command(Command::All(name, how, other))))
 }

@@ -15,7 +15,7 @@ use crate::requests::sources::source_of;
 use serde_json::Value;
 use std::alloc::Global;
 use wb_cells::Name;
-use wb_edit::{AskedRectangle, Edit};
+use wb_edit::{AskedRectangle, Command, Edit};
 use wb_history::Refusal;
 use wb_literals::{DomainLiteral, MappingLiteral, RectangleLiteral};
 
@@ -30,7 +30,7 @@ fn rectangular(
     let ranges = domain_within(literal)?;
     let mapping = mapping_within(spelled)?;
     let asked = AskedRectangle::Ranges(ranges);
-    Ok(Request::Change(Edit::Domain(name, asked, mapping)))
+    Ok(Request::Change(Edit::Command(Command::Domain(name, asked, mapping))))
 }
 
 // A new domain of what a literal spells.
@@ -45,7 +45,11 @@ fn domain_with(
         DomainLiteral::Rectangle(literal) => rectangular(name, literal, spelled),
         DomainLiteral::Set(_) => {
             let mapping = mapping_within(spelled)?;
-            Ok(Request::Change(Edit::Domain(name, AskedRectangle::Indices, mapping)))
+            Ok(Request::Change(Edit::Command(Command::Domain(
+                name,
+                AskedRectangle::Indices,
+                mapping,
+            ))))
         }
     }
 }
@@ -85,7 +89,7 @@ pub(crate) fn reshape_of(alloc: Global, value: &Value) -> Result<Request, Refusa
     has_fields(value, 3)?;
     let name = name_field(value, "d")?;
     let source = source_of(alloc, value)?;
-    Ok(Request::Change(Edit::Reshape(name, source)))
+    Ok(Request::Change(Edit::Command(Command::Reshape(name, source))))
 }
 
 /// Another mapping of a rectangular domain.
@@ -97,7 +101,7 @@ pub(crate) fn remap_of(value: &Value) -> Result<Request, Refusal>
     let text = text_field(value, "map")?;
     let spelled = literal_mapping(text)?;
     let mapping = mapping_within(&spelled)?;
-    Ok(Request::Change(Edit::Remap(name, mapping)))
+    Ok(Request::Change(Edit::Command(Command::Remap(name, mapping))))
 }
 
 /// The end of a domain.
@@ -106,5 +110,5 @@ pub(crate) fn drop_domain_of(value: &Value) -> Result<Request, Refusal>
 {
     has_fields(value, 2)?;
     let name = name_field(value, "d")?;
-    Ok(Request::Change(Edit::DropDomain(name)))
+    Ok(Request::Change(Edit::Command(Command::DropDomain(name))))
 }

@@ -7,12 +7,13 @@ ghost use Rattle.wb_protocol.specs.Fields.{field_count, has_fields, has_fields_a
 ghost use Rattle.wb_protocol.specs.Fields.{integer_of, integers_of, integers_field, pair_of, triple_of, tuple_of, label_of, index_of, index_field, key_type_of};
 ghost use Rattle.wb_protocol.specs.Answers.{IsAnswer};
 ghost use Rattle.wb_protocol.specs.Fields.{integers_listed, key_type_field, operation_of, operation_field, reduction_of, reduction_field};
+ghost use Rattle.wb_protocol.specs.Fields.{note_in, optional_note, is_several, several_of, several_field};
 
 use serde_json::Value;
 use std::alloc::Global;
 use wb_arrays::Op;
 use wb_cells::{AnyIndex, Index, KeyType, Name, Point};
-use wb_edit::Operation;
+use wb_edit::{Note, Operation};
 use wb_history::Refusal;
 use wb_sets::Label;
 
@@ -285,4 +286,72 @@ pub(crate) fn reduction_field(value: &Value, key: &str) -> Result<Op, Refusal>
 {
     let text = text_field(value, key)?;
     reduction_of(text)
+}
+
+/// The text, where it is a note.
+pub(crate) fn note_in(alloc: Global, text: &str) -> Result<Note, Refusal>
+    ensures { IsAnswer (note_in text.now) result }
+{
+    let text = match String::from_str(alloc, text) {
+        Ok(text) => text,
+        Err(_) => return Err(Refusal::NoMemory),
+    };
+    match Note::new(text) {
+        Some(note) => Ok(note),
+        None => Err(Refusal::BadRequest),
+    }
+}
+
+/// A field that is a note, or that isn't there.
+pub(crate) fn optional_note(
+    alloc: Global,
+    value: &Value,
+    key: &str,
+) -> Result<Option<Note>, Refusal>
+    ensures { IsAnswer (optional_note key.now (view value.now)) result }
+{
+    match optional_text(value, key)? {
+        Some(text) => {
+            let note = note_in(alloc, text)?;
+            Ok(Some(note))
+        }
+        None => Ok(None),
+    }
+}
+
+// 1 to 4,096.
+fn is_several(count: usize) -> bool
+    ensures { result ≡ is_several count }
+{
+    1 <= count && count <= 4096
+}
+
+/// An array of so many values, whatever they are.
+pub(crate) fn several_of(value: &Value) -> Option<&[Value]>
+    ensures { option_map (λ s. items_view s.now) result ≡ several_of (view value.now) }
+{
+    match value {
+        Value::Array(items) => {
+            if is_several(items.len()) {
+                Some(items.as_slice())
+            } else {
+                None
+            }
+        }
+        Value::Number(_) => None,
+        Value::String(_) => None,
+        Value::Null => None,
+        Value::Bool(_) => None,
+        Value::Object(_) => None,
+    }
+}
+
+/// A field that is an array of 1 to 4,096 values.
+pub(crate) fn several_field<'a>(value: &'a Value, key: &str) -> Result<&'a [Value], Refusal>
+    ensures { result_map_both (λ s. items_view s.now) (λ e. e) result ≡ several_field key.now (view value.now) }
+{
+    value
+        .get(key)
+        .and_then(several_of)
+        .ok_or(Refusal::BadRequest)
 }

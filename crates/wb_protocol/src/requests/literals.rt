@@ -2,11 +2,13 @@
 ghost use Rattle.std.specs.Prelude.{◌≡◌, option_map};
 ghost use Rattle.std.specs.Result.{result_map_both};
 ghost use Rattle.wb_literals.specs.Said.{domain};
+ghost use Rattle.wb_edit.specs.Trees.{plain};
+ghost use Rattle.wb_log.specs.declared.refusal.Refusal.TheVariants.{Refused};
 ghost use Rattle.wb_protocol.specs.Answers.{IsAnswer};
 ghost use Rattle.wb_protocol.specs.Literals.{literal_domain, literal_mapping, optional_mapping, refusal_of_limit, domain_within, mapping_within};
 
 use std::alloc::Global;
-use wb_cells::{AnyLayout, AnyRect};
+use wb_cells::{AnyLayout, AnyRect, EditRefusal};
 use wb_history::Refusal;
 use wb_literals::limits::LimitErr;
 use wb_literals::{DomainLiteral, MappingLiteral, RectangleLiteral, read_domain, read_mapping};
@@ -42,12 +44,19 @@ pub(crate) fn optional_mapping(text: Option<&str>) -> Result<MappingLiteral, Ref
     }
 }
 
+/// The refusal of a request that is refused as an edit is.
+pub(crate) fn of_edit(why: wb_cells::Refusal) -> Refusal
+    ensures { result ≡ Refused (plain why) }
+{
+    Refusal::Refused(EditRefusal { why, at: None })
+}
+
 fn refusal_of_limit(why: LimitErr) -> Refusal
     ensures { result ≡ refusal_of_limit why }
 {
     match why {
-        LimitErr::TooLarge => Refusal::Refused(wb_cells::Refusal::TooLarge),
-        LimitErr::BadMapping => Refusal::Refused(wb_cells::Refusal::BadMapping),
+        LimitErr::TooLarge => of_edit(wb_cells::Refusal::TooLarge),
+        LimitErr::BadMapping => of_edit(wb_cells::Refusal::BadMapping),
     }
 }
 

@@ -11,4 +11,6 @@ pub mod queries;
 pub mod reading;
 pub mod request;
 pub mod sets;
+pub mod single;
 pub mod sources;
+pub mod transactions;

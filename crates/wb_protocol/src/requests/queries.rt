@@ -1,7 +1,7 @@
 // Requests for what the workbook and its history say.
 ghost use Rattle.std.specs.Prelude.{◌≡◌, codes};
 ghost use Rattle.serde_json.specs.View.{view};
-ghost use Rattle.wb_protocol.specs.Requests.{get_of, where_of, size_of, piece_of, reduce_of, state_of, print_of, history_from, history_of, edits_of};
+ghost use Rattle.wb_protocol.specs.Requests.{get_of, where_of, size_of, piece_of, reduce_of, state_of, note_of, print_of, history_from, history_of, edits_of};
 
 use crate::requests::fields::{
     field_count, has_fields, index_field, name_field, reduction_field, u64_field,
@@ -56,6 +56,15 @@ pub(crate) fn state_of(value: &Value) -> Result<Request, Refusal>
     has_fields(value, 2)?;
     let number = u64_field(value, "k")?;
     Ok(Request::Ask(Query::State(number)))
+}
+
+/// The note of an edit.
+pub(crate) fn note_of(value: &Value) -> Result<Request, Refusal>
+    ensures { result ≡ note_of (view value.now) }
+{
+    has_fields(value, 2)?;
+    let number = u64_field(value, "k")?;
+    Ok(Request::Ask(Query::Note(number)))
 }
 
 /// On which locale an index lies.

@@ -6,7 +6,7 @@ ghost use Rattle.wb_protocol.specs.Requests.{sparse_of, assoc_of, add_of, remove
 use crate::requests::fields::{has_fields, index_field, key_type_field, name_field};
 use crate::requests::request::Request;
 use serde_json::Value;
-use wb_edit::Edit;
+use wb_edit::{Command, Edit};
 use wb_history::Refusal;
 
 /// A new sparse domain.
@@ -16,7 +16,7 @@ pub(crate) fn sparse_of(value: &Value) -> Result<Request, Refusal>
     has_fields(value, 3)?;
     let name = name_field(value, "d")?;
     let parent = name_field(value, "of")?;
-    Ok(Request::Change(Edit::Sparse(name, parent)))
+    Ok(Request::Change(Edit::Command(Command::Sparse(name, parent))))
 }
 
 /// A new associative domain.
@@ -26,7 +26,7 @@ pub(crate) fn assoc_of(value: &Value) -> Result<Request, Refusal>
     has_fields(value, 3)?;
     let name = name_field(value, "d")?;
     let key = key_type_field(value, "of")?;
-    Ok(Request::Change(Edit::Assoc(name, key)))
+    Ok(Request::Change(Edit::Command(Command::Assoc(name, key))))
 }
 
 /// A new index of a sparse or associative domain.
@@ -36,7 +36,7 @@ pub(crate) fn add_of(value: &Value) -> Result<Request, Refusal>
     has_fields(value, 3)?;
     let name = name_field(value, "d")?;
     let index = index_field(value, "i")?;
-    Ok(Request::Change(Edit::Add(name, index)))
+    Ok(Request::Change(Edit::Command(Command::Add(name, index))))
 }
 
 /// The end of an index of a sparse or associative domain.
@@ -46,5 +46,5 @@ pub(crate) fn remove_of(value: &Value) -> Result<Request, Refusal>
     has_fields(value, 3)?;
     let name = name_field(value, "d")?;
     let index = index_field(value, "i")?;
-    Ok(Request::Change(Edit::Remove(name, index)))
+    Ok(Request::Change(Edit::Command(Command::Remove(name, index))))
 }

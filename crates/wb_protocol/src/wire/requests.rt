@@ -38,6 +38,7 @@ fn query_value(alloc: Global, query: &Query) -> Result<Value, AllocError>
         Query::Piece(a, l) => piece(alloc, a, *l),
         Query::Reduce(a, how) => reduction(alloc, a, reduction_word(*how)),
         Query::State(k) => by_number(alloc, "state", *k),
+        Query::Note(k) => by_number(alloc, "note", *k),
     }
 }
 

@@ -5,5 +5,6 @@ mod movers;
 mod readers;
 mod restores;
 mod scripts;
+mod transactions;
 mod wire;
 mod writes;

@@ -4,7 +4,7 @@ use std::alloc::Global;
 use std::test::Fail;
 use wb_arrays::{Crew, Mover};
 use wb_cells::Name;
-use wb_edit::Edit;
+use wb_edit::{Command, Edit};
 use wb_history::{History, RestoreErr};
 
 // The history of an array without its domain.
@@ -14,7 +14,7 @@ fn of_an_array_alone<M: Mover>(
     mover: &M,
 ) -> Result<Result<History, RestoreErr>, Fail> {
     let mut edits = Vec::new(alloc);
-    let array = Edit::Array(Name::new("A")?, Name::new("D")?);
+    let array = Edit::Command(Command::Array(Name::new("A")?, Name::new("D")?));
     edits.push((array, in_force))?;
     Ok(History::restore(alloc, edits, mover))
 }

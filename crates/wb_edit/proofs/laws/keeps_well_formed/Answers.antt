@@ -1,4 +1,4 @@
-use Rattle.wb_edit.proofs.Kept.{keeps_well_formed}
+use Rattle.wb_edit.proofs.EachEdit.{keeps_well_formed}
 use Rattle.wb_edit.proofs.laws.keeps_well_formed.Goals as goal
 
 pub returns : goal.returns

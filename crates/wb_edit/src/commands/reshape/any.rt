@@ -9,13 +9,13 @@ use crate::commands::reshape::sets::{plan_reshape_associative, plan_reshape_spar
 use crate::footprint::Footprint;
 use crate::looks::one_cell::domain_named;
 use std::alloc::Global;
-use wb_book::Book;
 use wb_cells::{AnyDomain, Delta, DomainKind, Name};
+use wb_layers::Layered;
 use wb_reshape::NewIndices;
 
 fn plan_reshape_kind(
     alloc: Global,
-    book: &Book,
+    book: &Layered<'_>,
     footprint: &mut Footprint,
     domain: Name,
     kind: &AnyDomain,
@@ -39,7 +39,7 @@ fn plan_reshape_kind(
 /// A new value of a domain.
 pub(crate) fn plan_reshape(
     alloc: Global,
-    book: &Book,
+    book: &Layered<'_>,
     footprint: &mut Footprint,
     domain: Name,
     source: &NewIndices,

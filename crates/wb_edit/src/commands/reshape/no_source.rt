@@ -6,13 +6,13 @@ ghost use Rattle.wb_edit.specs.Commands.Reshape.{no_source};
 use crate::attempt_err::AttemptErr;
 use crate::footprint::Footprint;
 use crate::looks::one_cell::domain_named;
-use wb_book::Book;
 use wb_cells::{Delta, Refusal};
+use wb_layers::Layered;
 use wb_reshape::Operand;
 
 /// There is no such source for the domain; a name that is given is tested first.
 pub(crate) fn plan_no_source(
-    book: &Book,
+    book: &Layered<'_>,
     footprint: &mut Footprint,
     given: &Operand,
 ) -> Result<Delta, AttemptErr>

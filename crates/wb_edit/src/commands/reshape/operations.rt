@@ -20,14 +20,14 @@ use crate::footprint::Footprint;
 use crate::looks::indices::{listed_members, look_at_members};
 use crate::looks::sources::{gives_set, indices_given};
 use std::alloc::Global;
-use wb_book::Book;
 use wb_cells::{AnyDomain, AnyIndex, Cell, Delta, DomainKind, KeyType, Kind, Name};
+use wb_layers::Layered;
 use wb_range::NoMemory;
 use wb_reshape::set_operations::without;
 use wb_reshape::{Operand, SetOperation};
 
 // Whether a sparse or associative domain has an index.
-fn has_member(book: &Book, domain: Name, index: &AnyIndex) -> bool
+fn has_member(book: &Layered<'_>, domain: Name, index: &AnyIndex) -> bool
     ensures { result ≡ has (members book.now.cells domain) index.now }
 {
     book.get(&Cell::Member(domain, *index)).is_some()
@@ -41,7 +41,12 @@ struct Parted {
 }
 
 // Those of `given` that a domain has and those that it doesn't have, in their order.
-fn part(alloc: Global, book: &Book, domain: Name, given: &[AnyIndex]) -> Result<Parted, NoMemory>
+fn part(
+    alloc: Global,
+    book: &Layered<'_>,
+    domain: Name,
+    given: &[AnyIndex],
+) -> Result<Parted, NoMemory>
     ensures inside { IfOk result (λ r. r.inside.items ≡ among (members book.now.cells domain) given.now) }
     ensures outside { IfOk result (λ r. r.outside.items ≡ without (members book.now.cells domain) given.now) }
 {
@@ -69,7 +74,7 @@ struct Exchange {
 // What the indices of a domain and those that are given have in common stays.
 fn intersection(
     alloc: Global,
-    book: &Book,
+    book: &Layered<'_>,
     domain: Name,
     given: &[AnyIndex],
 ) -> Result<Exchange, NoMemory>
@@ -88,7 +93,7 @@ fn intersection(
 // which ascend.
 fn exchange_by(
     alloc: Global,
-    book: &Book,
+    book: &Layered<'_>,
     domain: Name,
     how: SetOperation,
     given: &[AnyIndex],
@@ -128,7 +133,7 @@ fn exchange_by(
 // The domain gets what the operation makes of its indices and the given ones, which ascend.
 fn plan_combined(
     alloc: Global,
-    book: &Book,
+    book: &Layered<'_>,
     footprint: &mut Footprint,
     domain: Name,
     key: KeyType,
@@ -157,7 +162,7 @@ fn plan_combined(
 /// The indices of an associative domain become what they and those that are given make.
 pub(crate) fn plan_combine(
     alloc: Global,
-    book: &Book,
+    book: &Layered<'_>,
     footprint: &mut Footprint,
     domain: Name,
     key: KeyType,

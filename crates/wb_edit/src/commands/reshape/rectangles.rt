@@ -11,15 +11,15 @@ use crate::footprint::Footprint;
 use crate::looks::reshaping::shape;
 use crate::looks::sources::{displacement_of, gives_rectangle, ranges_given, same_rank, slice_of};
 use std::alloc::Global;
-use wb_book::Book;
 use wb_cells::{AnyRect, Delta, Name, Point};
+use wb_layers::Layered;
 use wb_reshape::new_rectangles::left_out;
 use wb_reshape::{Displacement, NewIndices, Operand};
 
 // A rectangular domain with some ranges gets new ones.
 fn plan_reshaped(
     alloc: Global,
-    book: &Book,
+    book: &Layered<'_>,
     footprint: &mut Footprint,
     domain: Name,
     old: &AnyRect,
@@ -39,7 +39,7 @@ fn plan_reshaped(
 // What is given takes the place of the ranges.
 fn plan_to(
     alloc: Global,
-    book: &Book,
+    book: &Layered<'_>,
     footprint: &mut Footprint,
     domain: Name,
     rank: u8,
@@ -56,7 +56,7 @@ fn plan_to(
 // The ranges become what they have in common with those that are given.
 fn plan_slice(
     alloc: Global,
-    book: &Book,
+    book: &Layered<'_>,
     footprint: &mut Footprint,
     domain: Name,
     rank: u8,
@@ -74,7 +74,7 @@ fn plan_slice(
 // The ranges move by an offset for each dimension.
 fn plan_displace(
     alloc: Global,
-    book: &Book,
+    book: &Layered<'_>,
     footprint: &mut Footprint,
     domain: Name,
     rank: u8,
@@ -92,7 +92,7 @@ fn plan_displace(
 /// A new value of a rectangular domain of a rank.
 pub(crate) fn plan_reshape_rectangle(
     alloc: Global,
-    book: &Book,
+    book: &Layered<'_>,
     footprint: &mut Footprint,
     domain: Name,
     rank: u8,

@@ -13,13 +13,13 @@ use crate::looks::reshaping::none_there;
 use crate::looks::resizing::zeros;
 use crate::looks::users::{arrays, sparse_domains, uses};
 use std::alloc::Global;
-use wb_book::Book;
 use wb_cells::{AnyIndex, AnyRect, Cell, Delta, Kind, Name, Value};
+use wb_layers::Layered;
 
 /// A rectangular domain gets new ranges, so that indices leave it and others come to it.
 pub(crate) fn plan_replaced(
     alloc: Global,
-    book: &Book,
+    book: &Layered<'_>,
     footprint: &mut Footprint,
     domain: Name,
     new: &AnyRect,

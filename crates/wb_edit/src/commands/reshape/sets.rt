@@ -13,15 +13,15 @@ use crate::footprint::Footprint;
 use crate::looks::indices::members;
 use crate::looks::sources::{gives_set, indices_given};
 use std::alloc::Global;
-use wb_book::Book;
 use wb_cells::{AnyDomain, AnyIndex, Delta, DomainKind, KeyType, Name, Refusal};
+use wb_layers::Layered;
 use wb_reshape::set_operations::without;
 use wb_reshape::{NewIndices, Operand};
 
 // A domain with some indices gets others.
 fn plan_with_indices(
     alloc: Global,
-    book: &Book,
+    book: &Layered<'_>,
     footprint: &mut Footprint,
     domain: Name,
     kind: &AnyDomain,
@@ -44,7 +44,7 @@ fn plan_with_indices(
 // What is given takes the place of the indices.
 fn plan_to(
     alloc: Global,
-    book: &Book,
+    book: &Layered<'_>,
     footprint: &mut Footprint,
     domain: Name,
     kind: &AnyDomain,
@@ -61,7 +61,7 @@ fn plan_to(
 /// A new value of a sparse domain.
 pub(crate) fn plan_reshape_sparse(
     alloc: Global,
-    book: &Book,
+    book: &Layered<'_>,
     footprint: &mut Footprint,
     domain: Name,
     kind: &AnyDomain,
@@ -80,7 +80,7 @@ pub(crate) fn plan_reshape_sparse(
 /// A new value of an associative domain with indices of a type.
 pub(crate) fn plan_reshape_associative(
     alloc: Global,
-    book: &Book,
+    book: &Layered<'_>,
     footprint: &mut Footprint,
     domain: Name,
     key: KeyType,

@@ -13,6 +13,7 @@ mod requests;
 mod reshapes;
 mod sessions;
 mod texts;
+mod transactions;
 
 use std::alloc::Global;
 use std::process::Abort;
@@ -126,6 +127,7 @@ fn play_each<M: Mover>(rt: &impl Abort, alloc: Global, mover: &M) -> Result<(), 
         loads::SCRIPTS.as_slice(),
         examples::SCRIPTS.as_slice(),
         explains::SCRIPTS.as_slice(),
+        transactions::SCRIPTS.as_slice(),
     ] {
         play_all(rt, alloc, scripts, mover)?;
     }

@@ -18,7 +18,7 @@ plan_all_results-requires c =
     let b : Name = c.args.other in
     let one : Name × Kind = (c.in_ok-domain.domain, c.in_ok-domain._kind) in
     let two : Name × Kind = (c.in_ok-over.over, c.in_ok-over._kind_of_other) in
-    let h = c.writes-writes.ensures.kept in
+    let h = c.is_formed.ensures in
     let first = saw_array s a c.args.footprint.now c.array_named.new.footprint one c.in_ok-domain.ensures in
     let second = saw_array s b c.array_named.new.footprint c.array_named-2.new.footprint two c.in_ok-over.ensures in
     same_indices s a b h (one_array s a b one.0 two.0 one.1 two.1 tt h first second

@@ -7,13 +7,13 @@ use Rattle.wb_cells.specs.Schema.{workbook}
 use Rattle.wb_edit.proofs.Trees.{then_judged}
 use Rattle.wb_edit.proofs.looks.objects.no_object.Goals as goal
 
-pub returns-in-Ok : goal.returns-in-Ok
-returns-in-Ok c =
+pub returns-in_ok-first-in-Ok : goal.returns-in_ok-first-in-Ok
+returns-in_ok-first-in-Ok c =
     let s = c.args.book.now.cells in
     let rs : List Pattern = c.args.footprint.now in
     let ss : List Pattern = c.keep.new.self in
     let kept : ss ≡ rs ++ Objects ∷ [] = c.in-Ok.ensures.ok in
-    rw (c.stopped.ensures, c.is_empty.ensures) (then_judged (λ next. look Objects next) s rs ss is_empty (seen workbook Objects s)
+    rw (c.stopped.ensures, c.is_empty.ensures s c.in_ok-first-in-Ok.ensures.first) (then_judged (λ next. look Objects next) s rs ss is_empty (seen workbook Objects s)
     (λ next. (
       refl,
       sym (append_assoc rs (Objects ∷ []) (reads (next (seen workbook Objects s)) s)) ∙

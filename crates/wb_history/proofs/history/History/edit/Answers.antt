@@ -1,5 +1,5 @@
 use Rattle.std.proofs.Common.{subst}
-use Rattle.wb_edit.specs.Commands.{meaning}
+use Rattle.wb_edit.specs.Edits.{meaning}
 use Rattle.wb_log.specs.Past.{meant}
 use Rattle.wb_log.specs.Replies.{EditReply}
 use Rattle.wb_log.proofs.Valid.{keeps_valid_more}

@@ -1,4 +1,4 @@
-use Rattle.wb_protocol.proofs.OnTheWire.Refused.{read_faultless, faultless_read}
+use Rattle.wb_protocol.proofs.OnTheWire.RefusedSeveral.{read_faultless, faultless_read}
 use Rattle.wb_protocol.proofs.wire.laws.reads_the_faultless.Goals as goal
 
 pub returns : goal.returns

@@ -1,4 +1,4 @@
-use Rattle.wb_protocol.proofs.OnTheWire.Refused.{refused_least, least_refused}
+use Rattle.wb_protocol.proofs.OnTheWire.RefusedSeveral.{refused_least, least_refused}
 use Rattle.wb_protocol.proofs.wire.laws.refuses_by_the_least.Goals as goal
 
 pub returns : goal.returns

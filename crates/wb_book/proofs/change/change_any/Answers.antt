@@ -1,0 +1,95 @@
+use Rattle.std.proofs.Common.{◌≡◌, refl, sym, ap, subst, ◌∙◌}
+use Rattle.selective_undo.specs.Changes.{apply, AllOnce, sets}
+use Rattle.selective_undo.proofs.AllOrNothing.{once-inverse, room-inverse, off_cells}
+use Rattle.wb_cells.specs.Cells.{Changes, cell_cmp, cell_order, state_of}
+use Rattle.wb_book.specs.Joined.{stored_in}
+use Rattle.wb_book.specs.After.{lies_at}
+use Rattle.wb_book.proofs.Built.{built_ascending}
+use Rattle.wb_book.proofs.ElementsSet.{set_whole}
+use Rattle.wb_book.proofs.SetBack.{once_set}
+use Rattle.wb_book.proofs.Whole.{once_stored, made_cells, made_shelf, taken_back}
+use Rattle.wb_book.proofs.Formed.{all_formed, all_numeric}
+use Rattle.wb_book.specs.Shelf.{cells_of}
+use Rattle.wb_book.proofs.change.change_any.Goals as goal
+
+pub returns-then-are_set-clause-ok : goal.returns-then-are_set-clause-ok
+returns-then-are_set-clause-ok g c =
+    (set_whole c.args.cells.now c.args.arrays.now c.set_all.new.arrays c.args.delta.now c.requires.shelf c.requires.formed
+    (sym c.are_set.ensures ∙ c.if-are_set.true)
+    c.set_all.ensures.names c.set_all.ensures.lie c.set_all.ensures.agree).0
+
+pub returns-then-are_set-clause-shelf : goal.returns-then-are_set-clause-shelf
+returns-then-are_set-clause-shelf g c =
+    (set_whole c.args.cells.now c.args.arrays.now c.set_all.new.arrays c.args.delta.now c.requires.shelf c.requires.formed
+    (sym c.are_set.ensures ∙ c.if-are_set.true)
+    c.set_all.ensures.names c.set_all.ensures.lie c.set_all.ensures.agree).1
+
+pub concerned-requires : goal.concerned-requires
+concerned-requires g c = all_numeric c.args.delta.now (cells_of c.args.cells.now c.args.arrays.now) c.requires.once c.requires.formed
+
+pub prepared-requires-after_bounds : goal.prepared-requires-after_bounds
+prepared-requires-after_bounds g c κs within =
+    all_formed c.args.cells.now c.args.arrays.now c.args.delta.now c.requires.shelf c.as_slice-changed.result.now (c.as_slice-changed.ensures.value
+    ∙ c.in-Ok.ensures) c.requires.once c.requires.formed c.in-Ok-concerned.groups.entries c.in-Ok-concerned.ensures.lead c.in-Ok-concerned.ensures.ascending
+
+pub finish-requires : goal.finish-requires
+finish-requires g c =
+    built_ascending (lies_at (stored_in c.prepared.new.cells.entries)) c.prepared.new.arrays.entries c.in-Ok-concerned.groups.entries
+    c.in-Ok-prepared.built.items
+    c.in-Ok-prepared.ensures.built c.in-Ok-concerned.ensures.ascending
+
+pub returns-in-Ok-prepared-clause-ok : goal.returns-in-Ok-prepared-clause-ok
+returns-in-Ok-prepared-clause-ok g c =
+    made_cells c.args.cells.now c.args.arrays.now c.args.delta.now c.requires.shelf c.as_slice-changed.result.now (c.as_slice-changed.ensures.value
+    ∙ c.in-Ok.ensures) c.requires.once c.requires.formed
+    c.prepared.new.cells c.finish.new.cells c.prepared.new.arrays.entries c.finish.new.arrays.entries c.in-Ok-prepared.built.items
+    c.in-Ok-prepared.ensures.set c.finish.ensures.cells c.in-Ok-prepared.ensures.others c.in-Ok-prepared.ensures.elements c.in-Ok-prepared.ensures.there
+    c.in-Ok-concerned.groups.entries c.in-Ok-concerned.ensures.lead c.in-Ok-concerned.ensures.objects
+    c.in-Ok-concerned.ensures.ascending c.in-Ok-prepared.ensures.built c.finish.ensures.arrays
+    c.finish.new.arrays refl c.finish.ensures.ascending_cells c.finish.ensures.ascending
+
+pub returns-in-Ok-prepared-clause-shelf : goal.returns-in-Ok-prepared-clause-shelf
+returns-in-Ok-prepared-clause-shelf g c =
+    made_shelf c.args.cells.now c.args.arrays.now c.args.delta.now c.requires.shelf c.as_slice-changed.result.now (c.as_slice-changed.ensures.value
+    ∙ c.in-Ok.ensures) c.requires.once c.requires.formed
+    c.prepared.new.cells c.finish.new.cells c.prepared.new.arrays.entries c.finish.new.arrays.entries c.in-Ok-prepared.built.items
+    c.in-Ok-prepared.ensures.set c.finish.ensures.cells c.in-Ok-prepared.ensures.others c.in-Ok-prepared.ensures.elements c.in-Ok-prepared.ensures.there
+    c.in-Ok-concerned.groups.entries c.in-Ok-concerned.ensures.lead c.in-Ok-concerned.ensures.objects
+    c.in-Ok-concerned.ensures.ascending c.in-Ok-prepared.ensures.built c.finish.ensures.arrays
+    c.in-Ok-concerned.ensures.others
+    c.finish.new.arrays refl c.finish.ensures.ascending_cells c.finish.ensures.ascending
+
+pub take_back-requires-clause-once : goal.take_back-requires-clause-once
+take_back-requires-clause-once g c =
+    let xs : Changes = c.as_slice-changed.result.now in
+    let once : AllOnce cell_cmp xs = subst (λ (ys : Changes). AllOnce cell_cmp ys) (sym (c.as_slice-changed.ensures.value ∙ c.in-Ok.ensures))
+    (once_stored c.args.delta.now c.requires.once) in
+    subst (λ (ys : Changes). AllOnce cell_cmp ys) (sym (c.as_slice-back.ensures.value ∙ c.in-Ok-given_before.ensures))
+    (once-inverse (sets xs) (state_of c.args.cells.now) (once_set xs once))
+
+pub take_back-requires-clause-room : goal.take_back-requires-clause-room
+take_back-requires-clause-room g c =
+    rw (c.as_slice-back.ensures.value, c.in-Ok-given_before.ensures)
+    (room-inverse (sets c.as_slice-changed.result.now) (state_of c.args.cells.now) (state_of c.prepared.new.cells) c.prepared.ensures.stays_cells)
+
+pub returns-clause-err : goal.returns-clause-err
+returns-clause-err g c =
+    let xs : Changes = c.as_slice-changed.result.now in
+    let back : state_of c.take_back.new.cells ≡ state_of c.args.cells.now =
+    c.take_back.ensures.cells ∙ ap (λ (ys : Changes). apply ys (state_of c.prepared.new.cells)) (c.as_slice-back.ensures.value ∙ c.in-Ok-given_before.ensures)
+    ∙ off_cells cell_order (sets xs) (state_of c.args.cells.now) (state_of c.prepared.new.cells) c.prepared.ensures.others_cells in
+    (taken_back c.args.cells.now c.args.arrays.now c.args.delta.now c.requires.shelf xs (c.as_slice-changed.ensures.value ∙ c.in-Ok.ensures)
+    c.take_back.new.cells c.prepared.new.arrays.entries c.take_back.new.arrays.entries back c.prepared.ensures.others c.prepared.ensures.stays
+    c.take_back.ensures.arrays
+    c.take_back.new.arrays refl c.take_back.ensures.ascending_cells c.take_back.ensures.ascending).0
+
+pub returns-clause-shelf : goal.returns-clause-shelf
+returns-clause-shelf g c =
+    let xs : Changes = c.as_slice-changed.result.now in
+    let back : state_of c.take_back.new.cells ≡ state_of c.args.cells.now =
+    c.take_back.ensures.cells ∙ ap (λ (ys : Changes). apply ys (state_of c.prepared.new.cells)) (c.as_slice-back.ensures.value ∙ c.in-Ok-given_before.ensures)
+    ∙ off_cells cell_order (sets xs) (state_of c.args.cells.now) (state_of c.prepared.new.cells) c.prepared.ensures.others_cells in
+    (taken_back c.args.cells.now c.args.arrays.now c.args.delta.now c.requires.shelf xs (c.as_slice-changed.ensures.value ∙ c.in-Ok.ensures)
+    c.take_back.new.cells c.prepared.new.arrays.entries c.take_back.new.arrays.entries back c.prepared.ensures.others c.prepared.ensures.stays
+    c.take_back.ensures.arrays
+    c.take_back.new.arrays refl c.take_back.ensures.ascending_cells c.take_back.ensures.ascending).1
