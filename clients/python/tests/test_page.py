@@ -263,15 +263,17 @@ class Page(unittest.TestCase):
         for part in (-1, "1", None, True, 1.5):
             self.assertFalse(self.ask("/do", {"op": "turn", "a": "AD", "part": part})[1]["ok"])
 
-    def test_pasted_cells_are_edits_of_their_own(self):
-        """Where no ranges say which they are."""
+    def test_pasted_cells_are_one_edit(self):
+        """Also where no ranges say which they are. It has a note, which is another one where one was typed."""
         self.open(Workbook.run(PROGRAM))
         self.lines("D = {1..2, 1..2}", "A over D", "T = text", 'T += "x"', "P over T")
         told = self.ask("/do", {"op": "paste", "a": "A", "cells": [["1, 1", "5"], ["1, 2", "+6"], ["2, 1", "-7"]]})[1]
-        self.assertEqual((told["ok"], told["say"].strip()), (True, "3 cells of A set by 3 edits, 6 to 8, of which each is taken back by itself"))
-        self.assertTrue(self.ask("/do", {"op": "paste", "a": "P", "cells": [['"x"', "4"]]})[1]["ok"])
-        edits = self.ask("/state")[1]["edits"]
-        self.assertEqual([e["what"] for e in edits[5:]], ["A[1, 1] = 5", "A[1, 2] = 6", "A[2, 1] = -7", 'P["x"] = 4'])
+        self.assertEqual((told["ok"], told["say"].strip()), (True, "3 cells of A set by edit 6"))
+        told = self.ask("/do", {"op": "paste", "a": "P", "cells": [['"x"', "4"]], "note": "of March"})[1]
+        self.assertEqual((told["ok"], told["noted"]), (True, True))
+        self.assertEqual(self.ask("/do", {"op": "paste", "a": "A", "cells": [["1, 1", "5"], ["2, 1", "-7"]], "fills": True})[1]["noted"], False)
+        self.assertEqual([(e["note"], e["what"], e["parts"]) for e in self.ask("/state")[1]["edits"][5:]], [
+            ("paste", "A[1, 1] = 5; A[1, 2] = 6; A[2, 1] = -7", 3), ("of March", 'P["x"] = 4', 1), ("", "A[1, 1] = 5; A[2, 1] = -7", 2)])
         before = self.ask("/history")[1]
         for array, cells, words in (
             ("A", [["1, 1", "1"], ["1, 2", "1.5"]], "whole numbers only: 1.5 isn't one"),

@@ -216,7 +216,7 @@ class Talk(unittest.TestCase):
         told = self.say("undo 3")
         self.assertIn("Blocked by edit 4 of another seat (A[1] = 6): it is later", told)
         self.assertIn("│ 4    │ another │ A[1] = 6   │       │ in force │", self.say("history"))
-        other["A"].update({2: 8, 3: 9})
+        other["A"][2], other["A"][3] = 8, 9
         told = self.say("A[1] = 7").splitlines()
         self.assertEqual(told, ["  edit 7, 1 cell", "  before it came edits 5 and 6 of other seats; history shows what everybody did"])
         self.assertEqual(self.say("A[1] = 8"), "  edit 8, 1 cell\n")
