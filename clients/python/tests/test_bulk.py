@@ -159,7 +159,7 @@ class Bulk(unittest.TestCase):
 
     def test_many_single_ones(self):
         """Over texts each number is an edit in one transaction; more than a line holds go in parts, all or none."""
-        names = [f"n{at:04}" for at in range(1600)]
+        names = [f"n{at:04}" for at in range(1700)]
         T = self.wb.assoc("T", "text")
         T |= set(names[:1500])
         P = self.wb.array("P", T)
@@ -169,14 +169,14 @@ class Bulk(unittest.TestCase):
         nines = {name: 9 for name in names}
         with self.assertRaises(TransactionTooLong) as no:
             P.update(nines)
-        self.assertEqual((len(no.exception.edits), no.exception.edits[-1]), (1600, {"op": "set", "a": "P", "i": "n1599", "v": 9}))
+        self.assertEqual((len(no.exception.edits), no.exception.edits[-1]), (1700, {"op": "set", "a": "P", "i": "n1699", "v": 9}))
         with self.assertRaises(OutOfDomain) as gone:
             P.update(nines, parts=True)
         self.assertEqual(gone.exception.request["i"], "n1500")
         self.assertEqual(list(P), list(range(1500)))
         T |= set(names[1500:])
         edits = P.update(nines, parts=True)
-        self.assertEqual((len(edits), sum(edit.cells for edit in edits), P.sum()), (2, 1600, 14_400))
+        self.assertEqual((len(edits), sum(edit.cells for edit in edits), P.sum()), (2, 1700, 15_300))
 
     def test_a_table_of_pandas(self):
         class Frame:

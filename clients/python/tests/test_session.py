@@ -111,6 +111,56 @@ class Talk(unittest.TestCase):
         self.assertEqual((told[0], told[39]), ("  edit 3: A[1] = A[1] + 1", "  edit 42: A[1] = A[1] + 1"))
         self.assertEqual(told[40:], ["  and 20 more", "  cascade 2 takes back 62, 61, 60, 59, 58, 57, 56, 55, .. and 2, 61 edits"])
 
+    def test_a_transaction(self):
+        """What is gathered is told, is in no question, and becomes one edit, of which the history has the note."""
+        self.say("D = {1..4}", "A over D")
+        self.assertIn("begun: what you change now is gathered", self.say("begin"))
+        self.assertEqual(self.say("A[1] = 5"), "  gathered, 1 edit so far\n")
+        self.assertEqual(self.say("A[1]"), "  0\n  without the 1 edit that is gathered\n")
+        self.assertEqual(self.say("E = {1..2}", "E = {1..3}", "B over E", "B += B", "B[3] = 7"), "  gathered, 6 edits so far\n")
+        self.assertEqual(self.say("names").splitlines()[-1], "  without the 6 edits that are gathered")
+        self.assertEqual(self.wb.counts(), (2, 10))
+        self.assertEqual(self.say("begin"), "  begun already, with 6 edits\n  1: A[1] = 5\n  2: E = {1..2}\n  3: E = {1..3}\n  4: B over E\n"
+                                            "  5: B += B\n  6: B[3] = 7\n")
+        self.assertEqual(self.say('commit "March forecast"'), "  edit 3, 10 cells: March forecast\n")
+        self.assertEqual(self.say("note 3").splitlines()[:3], ["  edit 3: March forecast", "  1: A[1] = 5", "  2: E = {1..2}"])
+        self.assertEqual(self.say("note 2"), "  edit 2 has no note\n")
+        self.assertIn("E11, no-such-edit", " ".join(self.say("note 4").split()))
+        self.assertIn('│ 3    │ me  │ "March forecast": A[1] = 5;', self.say("history"))
+        self.assertEqual(self.say("A[1]"), "  5\n")
+        self.assertIn('edit 3 is taken back, 10 cells: "March forecast": A[1] = 5', self.say("undo"))
+        self.assertIn("nothing is called B", self.say("B"))
+
+    def test_a_transaction_that_is_refused_or_dropped(self):
+        """It stays gathered where it is refused."""
+        self.say("D = {1..4}", "A over D", "begin", "A[1] = 5", "A[9] = 6", "A[2] = 7")
+        told = " ".join(self.say('commit "why"').split())
+        self.assertIn("edit 2 of 3, A[9] = 6: the index or locale isn't there; look at the domain, or let it grow first. (E06, out-of-domain) "
+                      "Nothing of the transaction was made. what is gathered stays gathered: `abandon 2` leaves that edit out, `abandon` drops all "
+                      "A over D = {1..4}", told)
+        self.assertEqual((self.session.gathered(), self.wb.counts()[0]), (3, 2))
+        self.assertEqual(self.say("abandon 2"), "  left out: A[9] = 6; 2 edits gathered\n")
+        self.assertIn("no edit is gathered at place 3: there are 2", self.say("abandon 3"))
+        self.assertIn("a note has 256 bytes at most", self.say('commit "a\\b"'))
+        self.assertEqual(self.say("commit"), "  edit 3, 2 cells\n")
+        for line in ("commit", "abandon", "abandon 1"):
+            self.assertIn("no transaction was begun: `begin` begins one", self.say(line))
+        self.assertEqual(self.say("begin", "A[1] = 6", "abandon"), "  1 edit dropped, and nothing changed\n")
+        self.assertEqual(self.say("begin", 'commit "why"'), "  nothing was gathered, so nothing changed\n")
+        self.say("begin")
+        for line in ("undo", "redo 3", "cascade 3", "load x", "import B x"):
+            with self.subTest(line):
+                self.assertIn("is no part of a transaction: commit it first, or abandon it", self.say(line))
+                self.assertTrue(self.session.failed)
+        self.assertEqual(self.wb.counts()[0], 3)
+
+    def test_a_line_that_is_not_read_in_a_transaction(self):
+        self.say("begin", "D = {1..4}", "E = {1..9223372036854775807}")
+        told = " ".join(self.say("commit").split())
+        self.assertIn("edit 2 of 2, E = {1..9223372036854775807}", told)
+        self.assertIn("`abandon 2` leaves that edit out", told)
+        self.assertIn("edit 1, 3 cells", self.say("abandon 2", "commit"))
+
     def test_a_blocked_redo(self):
         told = self.say("D = {1..4}", "A over D", "A[1] = 5", "undo 3", "A[1] = 6", "redo 3")
         self.assertIn("next: undo 4 first; then redo 3, and redo 4", told)

@@ -333,7 +333,13 @@ class BySession(unittest.TestCase):
         self.assertEqual(self.say(f"export Hours {path}"), f"  {path}: 6 elements of Hours\n")
         with open(path, encoding="utf-8") as file:
             self.assertEqual(file.read(), HOURS.replace("who", ""))
-        self.assertIn("Hours has the numbers of the file, by edit 15\n", self.say(f"import Hours {path}"))
+        self.assertIn("Hours has the numbers of the file, by edit 2\n", self.say(f"import Hours {path}"))
+        self.assertEqual([edit.note for edit in self.wb.history()], ["import my plan.csv", "import out.csv"])
+        self.assertEqual(self.wb.history()[0].parts, [
+            "HoursDomain = {1..2, 1..3}", "Hours over HoursDomain", "Hours[1..2, 1..3] = [8, 8, 0, 4, 0, -6]",
+            "HoursRowTitles = text", 'HoursRowTitles = {"Ada", "Emmy"}', "HoursRow over HoursRowTitles", 'HoursRow["Ada"] = 1', 'HoursRow["Emmy"] = 2',
+            "HoursColumnTitles = text", 'HoursColumnTitles = {"Mon", "Tue", "Wed"}', "HoursColumn over HoursColumnTitles",
+            'HoursColumn["Mon"] = 1', 'HoursColumn["Tue"] = 2', 'HoursColumn["Wed"] = 3'])
         self.assertIn("1 │   8 │", self.say("label Hours rows", "Hours"))
         self.assertIn("Emmy │   4 │", self.say("label Hours rows HoursRow", "Hours"))
         self.assertIn("│ Ida │   4 │", self.say('HoursRowTitles -= "Emmy"', 'HoursRowTitles += "Ida"', 'HoursRow["Ida"] = 2', "Hours"))
