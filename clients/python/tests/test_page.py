@@ -294,6 +294,40 @@ class Page(unittest.TestCase):
         self.assertEqual((told["ok"], "E06" in told["say"]), (False, True))
         self.assertIn("array A over D [5, 6, -7, 0]", self.ask("/text")[1])
 
+    def test_what_a_transaction_did(self):
+        """Its edits are told where they are asked for, and of many the first ones."""
+        book = Workbook.run(PROGRAM)
+        A = book.array("A", book.domain("D", range(1, 1001)))
+        with book.transaction("squares"):
+            for index in range(1, 311):
+                A[index] = index * index
+        self.open(book)
+        told = self.ask("/parts?k=3")[1]
+        self.assertEqual((told["ok"], told["k"], len(told["parts"]), told["more"]), (True, 3, 300, 10))
+        self.assertEqual(told["parts"][299], "A[300] = 90000")
+        self.assertEqual(self.ask("/parts?k=1")[1], {"ok": True, "k": 1, "parts": [], "more": 0})
+        self.assertEqual(self.ask("/parts?k=9")[1]["parts"], [])
+        self.assertEqual((self.ask("/parts?k=x")[0], self.ask("/parts")[0]), (400, 400))
+        edit = self.ask("/state")[1]["edits"][2]
+        self.assertEqual((edit["note"], edit["what"], edit["parts"]), ("squares", "A[1] = 1; A[2] = 4; A[3] = 9; and 307 more", 310))
+
+    def test_a_note_of_a_line(self):
+        self.open(Workbook.run(PROGRAM))
+        told = self.ask("/do", {"line": "D = {1..2}", "note": "a plan"})[1]
+        self.assertEqual((told["ok"], told["say"], told["noted"]), (True, "  edit 1, 3 cells", True))
+        self.assertEqual(self.ask("/do", {"line": "size D", "note": "a plan"})[1]["noted"], False)
+        self.assertEqual(self.ask("/do", {"line": "D = {1..", "note": "a plan"})[1]["noted"], False)
+        told = self.ask("/do", {"line": "E = {1..9223372036854775807}", "note": "a plan"})[1]
+        self.assertEqual((told["ok"], told["noted"], told["code"]), (False, False, "E09"))
+        for wrong in ('a "plan"', "x" * 257):
+            self.assertIn("a note has 256 bytes at most", self.ask("/do", {"line": "A over D", "note": wrong})[1]["say"])
+        self.assertTrue(self.ask("/do", {"op": "table", "a": "T", "text": "1,2\n3,4\n", "file": 'my "plan".csv'})[1]["ok"])
+        self.assertTrue(self.ask("/do", {"op": "table", "a": "U", "text": "1,2\n3,4\n"})[1]["ok"])
+        self.assertEqual([(e["note"], e["parts"]) for e in self.ask("/state")[1]["edits"]], [("a plan", 1), ("import my ?plan?.csv", 3), ("paste", 3)])
+        for line in ("begin", "commit", "abandon"):
+            self.assertIn("That is for the terminal", self.lines(line)["say"])
+        self.assertEqual(self.lines("note 2")["say"].splitlines()[0], "  edit 2: import my ?plan?.csv")
+
     def test_what_is_taken_back_here_is_put_back_here(self):
         self.open(Workbook.run(PROGRAM))
         self.assertIn("no edit of yours", self.ask("/do", {"op": "undo_mine"})[1]["say"])

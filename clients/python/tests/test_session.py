@@ -299,6 +299,15 @@ class Whole(unittest.TestCase):
         self.assertEqual(gone.returncode, 3)
         self.assertIn("there is no program", gone.stderr)
 
+    def test_a_script_that_begins_a_transaction(self):
+        """Nothing of it is made unless it is committed, whatever ends the script."""
+        done = self.run_with("D = {1..4}\nbegin\nA over D\nA[1] = 5\ncommit \"a plan\"\n")
+        self.assertEqual((done.returncode, done.stdout.splitlines()[-1]), (0, "  edit 2, 8 cells: a plan"))
+        for end in ("", "quit\n", "A[1 = 5\n"):
+            left = self.run_with("D = {1..4}\nbegin\nA over D\nE over D\n" + end)
+            self.assertEqual((left.returncode, left.stdout.splitlines()[-1]), (1, "  2 edits are gathered and not made, since no commit came"))
+        self.assertEqual(self.run_with("begin\n").returncode, 0)
+
     def test_what_is_no_program_and_no_server_is_told_in_a_sentence(self):
         with tempfile.TemporaryDirectory() as place:
             junk = os.path.join(place, "junk")
@@ -417,6 +426,27 @@ class Whole(unittest.TestCase):
             terminal.types("\x04")
             terminal.until("[y/N] ")
             terminal.types("\x04")
+            self.assertEqual(terminal.ends(), 0)
+
+    def test_what_is_gathered_stands_in_the_prompt_and_is_asked_about(self):
+        with tempfile.TemporaryDirectory() as place:
+            terminal = self.at_a_terminal(os.path.join(place, "plan.wb"))
+            for line, prompt in (("D = {1..4}", ""), ("begin", " (0 begun)"), ("A over D", " (1 begun)"), ("A[1] = 5", " (2 begun)"), ("A[1 = 5", " (2 begun)")):
+                terminal.until("> ")
+                terminal.types(line + "\n")
+                told = terminal.until(f"workbook{prompt}> ")
+                terminal.types("\n")
+            self.assertIn("\n" + " " * (len("workbook (2 begun)> ") + 4) + "^", told.replace("\r", ""))
+            for leave in ("quit\n", "\x04"):
+                terminal.until("> ")
+                terminal.types(leave)
+                self.assertIn("2 edits are gathered and not made, and would be gone; commit makes them", terminal.until("[y/N] "))
+                terminal.types("n\n")
+            terminal.until("> ")
+            terminal.types('commit "a plan"\n')
+            terminal.until("edit 2, 8 cells: a plan")
+            terminal.until("workbook> ")
+            terminal.types("quit\n")
             self.assertEqual(terminal.ends(), 0)
 
     def test_a_session_where_nothing_was_done_is_left_at_once(self):

@@ -58,7 +58,7 @@ def come_back(session: Session, end: Exception) -> News:
         raise SessionEnded(f"left, while {where(session)} was away") from None
     tell_news(session, news)
     if session.gathered():
-        session.wrapped(f"{_edits(session.gathered())} that you began stay gathered")
+        session.wrapped(f"still gathered, and not made: {_edits(session.gathered())}")
     return news
 
 
