@@ -454,12 +454,13 @@ class Page(InABrowser):
         browser.until(f"{whys} === ',,of March,typed first,paste'")
         browser.js("document.getElementById('note').value = 'no \\\\'")
         self.line(browser, "A[1] = 6")
-        self.assertIn("a note has 256 bytes at most", browser.text("#said"))
-        self.line(browser, "undo 3")
+        self.says(browser, "a note has 256 bytes at most")
+        self.line(browser, "undo 5")
+        self.says(browser, "edit 5 is taken back")
         self.assertEqual(browser.js(value), "no \\")
         browser.js("document.getElementById('note').value = ''")
         self.line(browser, "begin")
-        self.assertIn("Here a paste is one edit", browser.text("#said"))
+        self.says(browser, "Here a paste is one edit")
         self.assertEqual(browser.faults, [])
 
     def test_what_others_do_appears(self):
