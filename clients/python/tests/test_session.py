@@ -14,6 +14,7 @@ from workbook_client import Workbook
 from workbook_client.language import WORDS
 from workbook_client.session import Session
 from workbook_client.tables import Cell, columns, elements_table, grid, plain
+from workbook_client.terminal import prompt
 
 PACKAGE = HERE.parents[1]
 
@@ -470,16 +471,17 @@ class Whole(unittest.TestCase):
         self.assertEqual(told.stdout.splitlines(), wanted, told.stderr)
 
     def test_the_transcript_of_the_readme(self):
+        """And the transaction below it, which goes on from there."""
         text = (PACKAGE / "README.md").read_text(encoding="utf-8")
-        wanted = re.search(r"<!-- transcript -->\n```text\n(.*?)```", text, re.S)[1]
-        lines = re.findall(r"^workbook> (.*)$", wanted, re.M)
-        out = io.StringIO()
+        blocks = [re.search(rf"<!-- {name} -->\n```text\n(.*?)```", text, re.S)[1] for name in ("transcript", "a transaction")]
         with Workbook.run(PROGRAM) as wb:
-            session = Session(wb, out, width=80)
-            for line in lines:
-                session.say("workbook> " + line)
-                session.line(line, "workbook> ")
-        self.assertEqual(out.getvalue(), wanted)
+            session = Session(wb, io.StringIO(), width=80)
+            for wanted in blocks:
+                session.out = io.StringIO()
+                for line in re.findall(r"^workbook(?: \(\d+ begun\))?> (.*)$", wanted, re.M):
+                    session.say(prompt(session) + line)
+                    session.line(line, prompt(session))
+                self.assertEqual(session.out.getvalue(), wanted)
 
 
 if __name__ == "__main__":
