@@ -303,7 +303,7 @@ class Whole(unittest.TestCase):
     def test_a_script_that_begins_a_transaction(self):
         """Nothing of it is made unless it is committed, whatever ends the script."""
         done = self.run_with("D = {1..4}\nbegin\nA over D\nA[1] = 5\ncommit \"a plan\"\n")
-        self.assertEqual((done.returncode, done.stdout.splitlines()[-1]), (0, "  edit 2, 8 cells: a plan"))
+        self.assertEqual((done.returncode, done.stdout.splitlines()[-1]), (0, "  edit 2, 7 cells: a plan"))
         for end in ("", "quit\n", "A[1 = 5\n"):
             left = self.run_with("D = {1..4}\nbegin\nA over D\nE over D\n" + end)
             self.assertEqual((left.returncode, left.stdout.splitlines()[-1]), (1, "  2 edits are gathered and not made, since no commit came"))
@@ -445,7 +445,7 @@ class Whole(unittest.TestCase):
                 terminal.types("n\n")
             terminal.until("> ")
             terminal.types('commit "a plan"\n')
-            terminal.until("edit 2, 8 cells: a plan")
+            terminal.until("edit 2, 7 cells: a plan")
             terminal.until("workbook> ")
             terminal.types("quit\n")
             self.assertEqual(terminal.ends(), 0)

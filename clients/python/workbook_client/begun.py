@@ -9,8 +9,10 @@ from .requests import COMMANDS, Request, in_words
 
 ROOM = LONGEST - length_of({"op": "transaction", "edits": [], "note": "n" * LONGEST_NOTE})
 """So many bytes the edits may have in a line, whichever note they get."""
-MAKES = {"domain": ("d", "domain"), "sparse": ("d", "domain"), "assoc": ("d", "domain"), "array": ("a", "array"),
-         "drop_domain": ("d", None), "drop_array": ("a", None)}
+MAKES = {
+    "domain": ("d", "domain"), "sparse": ("d", "domain"), "assoc": ("d", "domain"), "array": ("a", "array"),
+    "drop_domain": ("d", None), "drop_array": ("a", None),
+}
 """The ops that make an object or drop one: the field with its name, and what has the name then."""
 
 
@@ -28,7 +30,9 @@ class Begun:
             raise ValueError(f"{in_words(request)} is no part of a transaction: commit it first, or abandon it")
         length = length_of(request) + 1
         if length > self._left:
-            raise ValueError(f"{in_words(request)} isn't gathered: a transaction is a line of {LONGEST:,} bytes at most, so commit what is there first")
+            raise ValueError(
+                f"{in_words(request)} isn't gathered: a transaction is a line of {LONGEST:,} bytes at most, so commit what is there first"
+            )
         self.edits.append(request)
         self._left -= length
 

@@ -86,7 +86,7 @@ function row(e) {
   const meta = make("span", "meta", make("span", "", facts.join(" · ")));
   const act = button("", e.on ? "undo" : "redo", () => ask({op: e.on ? "undo" : "redo", k: e.k}, act.textContent + " " + e.k));
   const made = make("li", (e.on ? "" : "off ") + (fresh.has(e.k) ? "fresh" : ""), make("span", "k", String(e.k)),
-    make("span", "what", e.note ? make("span", "why", e.note) : null, e.what || "(by " + (e.by || "another seat") + ")"), act, meta);
+    make("span", "what", e.note ? make("span", "why", e.note) : null, e.note && open.has(e.k) ? null : inWords(e)), act, meta);
   made.dataset.k = e.k;
   if (e.parts > 1) meta.append(fold(e));
   if (open.has(e.k)) made.append(did(open.get(e.k)));
@@ -94,6 +94,8 @@ function row(e) {
   if (looked && looked.k === e.k) made.append(leap());
   return made;
 }
+
+const inWords = e => e.what || "(by " + (e.by || "another seat") + ")";
 
 /** What folds the edits of a transaction, and unfolds them. */
 function fold(e) {

@@ -12,8 +12,8 @@ from . import requests
 from .requests import Request
 
 COMMANDS = (
-    "abandon", "begin", "cascade", "colours", "commit", "compact", "dependents", "drop", "exit", "export", "hello", "help", "history", "import", "keep",
-    "label", "load", "max", "min", "more", "names", "note", "piece", "quit", "redo", "save", "show", "size", "text", "undo", "where",
+    "abandon", "begin", "cascade", "colours", "commit", "compact", "dependents", "drop", "exit", "export", "hello", "help", "history",
+    "import", "keep", "label", "load", "max", "min", "more", "names", "note", "piece", "quit", "redo", "save", "show", "size", "text", "undo", "where",
     "who",
 )
 WORDS = COMMANDS + ("by", "align", "dmapped", "over", "sparse", "reduce", "int", "text", "irv", "rows", "columns")

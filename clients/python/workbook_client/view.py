@@ -38,7 +38,9 @@ APART = 1.5
 """So many seconds lie between two looks at a shared workbook, however many pages are open."""
 TERMINAL_ALONE = {
     **dict.fromkeys(("save", "load", "keep", "import", "export", "compact"), "Files are for the terminal; the links above give the texts."),
-    **dict.fromkeys(("begin", "commit", "abandon"), "That is for the terminal. Here a paste is one edit, and what is typed as `why` goes with the next one."),
+    **dict.fromkeys(
+        ("begin", "commit", "abandon"), "That is for the terminal. Here a paste is one edit, and what is typed as `why` goes with the next one.",
+    ),
     "colours": "Colours by locale are the box above.",
     "more": "Tables are shown above.",
     "quit": "The page is closed in the browser; its server ends by Ctrl-C in the terminal.",
