@@ -49,7 +49,15 @@ C[2..3, 0..1] = 5
 P["a..b"] = P["{x"] - 1
 F = {1..4}
 D = F
-drop F"""
+drop F
+begin
+A[ 1..<3 ] = 4
+F = { 1..#4 } dmapped  cyclicDist( 1,[2] )
+commit "a {plan} of [2..3]"
+begin
+F = {1..#2}
+A[4] = 1
+commit"""
 """Edits of each kind, with literals that a history spells in another way."""
 
 
