@@ -536,7 +536,7 @@ class Workbook:
             return no
         try:
             wrong = self.explain(no.request)
-        except Refusal:  # as a text in another line it is too long
+        except (Refusal, SessionEnded):  # as a text in another line it is too long, or the session has ended since
             return no
         return no if wrong is None or "at" not in wrong else refusal(no.request, {**no.reply, "at": wrong["at"]}, no.hint)
 

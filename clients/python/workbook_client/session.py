@@ -293,12 +293,12 @@ class Session:
             self.begun = None
             self.say("  nothing was gathered, so nothing changed")
             return
-        request, last = requests.transaction(begun.edits, note), max(self.book.edits, default=0)
+        last, sent = max(self.book.edits, default=0), self.book.exchange.posted
         self.begun = None
         try:
             edit = self.book.transact(begun.edits, note)
         except BaseException as no:
-            if isinstance(no, Refusal) or request not in self.book.exchange.on_their_way():
+            if isinstance(no, Refusal) or self.book.exchange.posted == sent:
                 self.begun = begun
             raise
         self.say(f"  edit {edit.number}, {_cells(edit.cells)}" + (f": {note}" if note else ""))
