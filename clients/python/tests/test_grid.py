@@ -472,6 +472,7 @@ class Grid(InABrowser):
         browser.key("Enter", CTRL)
         self.says(browser, "2 cells of Left set by edit 4")
         self.has("Left", 4, 4, 0)
+        browser.until("document.querySelectorAll('.edits li[data-k]').length === 4")
         self.assertEqual(self.edits(browser), ["Left over People", 'Left["Ada"] = 4; Left["Emmy"] = 4'])
         self.assertEqual(browser.faults, [])
 
