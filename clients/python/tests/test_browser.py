@@ -361,6 +361,12 @@ class Page(InABrowser):
         self.line(browser, "A[2] = 6", "undo 4")  # one's own undo is nothing to tell
         self.shows(browser, "A[2]", 0)
         self.assertEqual(browser.text("#notices"), "")
+        browser.click("#note")
+        browser.type("why")
+        self.line(browser, "A[3] = 1")
+        self.shows(browser, "A[3]", 1)
+        other.undo(5)
+        browser.until("document.getElementById('notices').innerText.includes('your edit 5 (\"why\": A[3] = 1) was taken back by another')")
         self.assertEqual(browser.faults, [])
 
     def test_who_did_it_by_name(self):

@@ -203,7 +203,7 @@ function taken(name, ks) {
 /** Edits by their numbers; one alone with what it did. */
 function named(ks) {
   const e = ks.length === 1 && state.edits.find(x => x.k === ks[0]);
-  return numbered(ks) + (e && e.what ? " (" + e.what + ")" : "");
+  return numbered(ks) + (e && e.what ? " (" + (e.note ? '"' + e.note + '": ' : "") + e.what + ")" : "");
 }
 
 /** "16, 17": upward, since each is put back in its own place, below those that read it. */

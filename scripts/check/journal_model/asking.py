@@ -16,7 +16,7 @@ from .text import lined, numbered
 
 ELEMENTS = 6
 AT_ONCE = [1, 1, 1, 2, 3, 5]
-CHANGES = {"set": 6, "own": 3, "first": 3, "fill": 1, "undo": 4, "redo": 4, "cascade": 2}
+CHANGES = {"set": 6, "own": 3, "first": 3, "fill": 1, "several": 3, "undo": 4, "redo": 4, "cascade": 2}
 QUESTIONS = {"edits": 4, "get": 3, "state": 2, "history": 1, "nothing": 1}
 
 
@@ -103,6 +103,12 @@ class Asker:
     def make_fill(self):
         low = self.element()
         return b'{"a":"A%d","on":"{%d..%d}","op":"fill","v":%d}' % (self.number, low, ELEMENTS, self.chance.randint(1, 9))
+
+    def make_several(self):
+        """Some of these in a transaction, with a note or without."""
+        edits = b",".join(self.chance.choice([self.make_set, self.make_own, self.make_first, self.make_fill])() for _ in range(self.chance.randint(1, 4)))
+        note = b'"note":"of seat %d",' % self.number if self.chance.random() < 0.5 else b""
+        return b'{"edits":[%s],%s"op":"transaction"}' % (edits, note)
 
     def make_undo(self):
         return self.turned("undo", True)
