@@ -525,7 +525,8 @@ class Texts(Case):
         numbers = ", ".join(str(10**6 + i) for i in range(10000))
         text = f"chapel-workbook 1\narray A over D [{numbers}]\narray B over D [{', '.join(['0'] * 10000)}]\nrect D {{1..100, 1..100}} none\nend\n"
         edits = self.wb.load(text)
-        self.assertEqual([edit.what.partition(" = ")[0] for edit in edits], ["D", "A over D", "A[1..50, 1..100]", "A[51..100, 1..100]", "B over D"])
+        parts = [[part.partition(" = ")[0] for part in edit.parts] for edit in edits]
+        self.assertEqual(parts, [["D", "A over D", "A[1..50, 1..100]"], ["A[51..100, 1..100]", "B over D"]])
         self.assertEqual(self.wb.print_text(), text)
 
     def test_the_text_of_a_history(self):

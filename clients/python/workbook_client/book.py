@@ -401,7 +401,7 @@ class Workbook:
         """Makes the objects of a workbook's text in an empty workbook, all or none.
 
         That is one edit. A text that is too long for a line, of more than about 60,000 bytes,
-        is made again step by step.
+        is made again object by object, by as few edits as it takes.
         """
         wanted = Snapshot.read(text)  # what is no text is told before
         request = requests.load(text)

@@ -4,7 +4,8 @@ from typing import TYPE_CHECKING, Any, List
 
 from . import bulk, requests
 from .edits import Edit
-from .refusals import LineTooLong
+from .gathering import length_of
+from .requests import Request
 from .snapshot import AssocDomain, Elements, RectDomain, Snapshot
 
 if TYPE_CHECKING:
@@ -12,42 +13,35 @@ if TYPE_CHECKING:
 
 
 def rebuild(book: "Workbook", wanted: Snapshot) -> List[Edit]:
-    """Each domain, then each array, then its elements; all or none."""
-    edits: List[Edit] = []
-    with book.trying(), book.pipeline():
-        for domain in sorted(wanted.domains.values(), key=lambda d: not isinstance(d, RectDomain)):
-            edits += _domain(book, domain)
-        for array in wanted.arrays.values():
-            edits += _elements(book, wanted, array)
-    return edits
+    """Each domain, then each array, then its elements, in as few edits as it takes; all or none."""
+    changes: List[Request] = []
+    for domain in sorted(wanted.domains.values(), key=lambda d: not isinstance(d, RectDomain)):
+        changes += _domain(domain)
+    for array in wanted.arrays.values():
+        changes += _elements(wanted, array)
+    return book.as_one(changes, parts=True)
 
 
-def _domain(book: "Workbook", domain: Any) -> List[Edit]:
+def _domain(domain: Any) -> List[Request]:
     if isinstance(domain, RectDomain):
-        return [book.change(requests.domain(domain.name, domain.literal, domain.map))]
+        return [requests.domain(domain.name, domain.literal, domain.map)]
     kind = requests.assoc if isinstance(domain, AssocDomain) else requests.sparse
-    edits = [book.change(kind(domain.name, domain.of))]
-    if domain.literal == "{}":
-        return edits
-    try:
-        return edits + [book.change(requests.reshape(domain.name, "to", domain.literal))]
-    except LineTooLong:
-        return edits + [book.change(requests.add(domain.name, i)) for i in domain.indices()]
+    new = kind(domain.name, domain.of)
+    whole = requests.reshape(domain.name, "to", domain.literal)
+    if length_of(whole) > bulk.LONGEST:
+        return [new, *(requests.add(domain.name, i) for i in domain.indices())]
+    return [new] if domain.literal == "{}" else [new, whole]
 
 
-def _elements(book: "Workbook", wanted: Snapshot, array: Elements) -> List[Edit]:
-    edits = [book.change(requests.array(array.name, array.over))]
+def _elements(wanted: Snapshot, array: Elements) -> List[Request]:
+    changes = [requests.array(array.name, array.over)]
     domain = wanted.domains[array.over]
     if isinstance(domain, RectDomain):
-        made = bulk.at_ranges(array.name, domain.ranges, array.elements) if any(array.elements) else ()
-        return edits + [book.change(request) for request in made]
+        return changes + (list(bulk.at_ranges(array.name, domain.ranges, array.elements)) if any(array.elements) else [])
     if array.irv:
-        edits.append(book.change(requests.irv(array.name, array.irv)))
+        changes.append(requests.irv(array.name, array.irv))
     values = array.elements
     usual = max(sorted(set(values)), key=values.count) if 0 < len(set(values)) < 8 else 0
     if usual:
-        edits.append(book.change(requests.fill_all(array.name, usual)))
-    for index, value in wanted.array(array.name).items():
-        if value != usual:
-            edits.append(book.change(requests.set(array.name, index, value)))
-    return edits
+        changes.append(requests.fill_all(array.name, usual))
+    return changes + [requests.set(array.name, index, value) for index, value in wanted.array(array.name).items() if value != usual]
