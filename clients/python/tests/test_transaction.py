@@ -94,7 +94,7 @@ class WithoutAProgram(unittest.TestCase):
             edit = book.change(SET)
             1 / 0
         self.assertEqual((self.channel.sent, t.edits), ([], [SET]))
-        with self.assertRaisesRegex(InTransaction, "an exception left its block"):
+        with self.assertRaisesRegex(InTransaction, "nothing of this transaction was sent"):
             edit.number
         self.assertEqual(repr(edit), "<edit that isn't sent>")
         with self.assertRaises(ValueError), book.transaction('no "note"'):
@@ -127,7 +127,7 @@ class WithoutAProgram(unittest.TestCase):
 
     def test_a_refusal_tells_which_edit(self):
         book = self.book({"at": 1, "error": "E06", "name": "out-of-domain"})
-        with self.assertRaises(OutOfDomain) as no, book.transaction("why"):
+        with self.assertRaises(OutOfDomain) as no, book.transaction("why") as t:
             book.change(SET)
             book.change({**SET, "i": 9})
             book.change(COPY)
@@ -137,6 +137,8 @@ class WithoutAProgram(unittest.TestCase):
         self.assertEqual(str(no), "edit 2 of 3, A[9] = 5: the index or locale isn't there; look at the domain, or let it grow first. "
                                   "(E06, out-of-domain) Nothing of the transaction was made.")
         self.assertEqual((book.edits, book.last_edit), ({}, None))
+        with self.assertRaises(OutOfDomain):  # as of a change in a pipeline that was refused
+            t.edit.number
 
     def test_which_edit_is_not_read_is_asked(self):
         wrong = {"at": 1, "error": "E02", "field": "to", "name": "bad-literal", "rule": "a rectangle"}
@@ -173,6 +175,8 @@ class WithoutAProgram(unittest.TestCase):
         no = no.exception
         self.assertIsInstance(no, LineTooLong)
         self.assertEqual((self.channel.sent, no.edits, t.edits, no.note), ([], edits, edits, "why"))
+        with self.assertRaisesRegex(InTransaction, "nothing of this transaction was sent"):
+            t.edit.number
         self.assertEqual(no.length, 2000 * 37 - 1 + len('{"op":"transaction","edits":[],"note":"why"}'))
         self.assertIn("2,000 edits, from A[10000] = 5 on, can't be one transaction: the line would have 74,043 bytes, and 65,536 are most", str(no))
         for part in no.parts():

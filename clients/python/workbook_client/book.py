@@ -471,14 +471,15 @@ class Workbook:
             return
         self._gathering = gathering = Transaction(self, None if note is None else checked_note(note))
         try:
-            yield gathering
+            try:
+                yield gathering
+            finally:
+                self._gathering = None
+            if gathering.edits:
+                self._transacted(requests.transaction(gathering.edits, gathering.note), gathering.edit)
         except BaseException:
             gathering.left()
             raise
-        finally:
-            self._gathering = None
-        if gathering.edits:
-            self._transacted(requests.transaction(gathering.edits, gathering.note), gathering.edit)
 
     # --- for the objects, and for requests of one's own
 

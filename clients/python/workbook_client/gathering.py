@@ -104,8 +104,9 @@ class Transaction:
             raise
 
     def left(self) -> None:
-        """An exception has left the block."""
-        self.edit._unsent = "nothing of this transaction was sent, since an exception left its block"
+        """An exception has left the block, or kept what is gathered from being sent."""
+        if self.edit._reading is None:
+            self.edit._unsent = "nothing of this transaction was sent"
 
 
 def _edits(number: int) -> str:
