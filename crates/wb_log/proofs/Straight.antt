@@ -1,5 +1,5 @@
 -- A new value of an element that is there: it is accepted, and what it reads and takes back follows from what the element was.
-use Rattle.std.proofs.Common.{◌≡◌, ℤ, true, List, [], ◌∷◌, Option, Some, Ok, IsSome, refl, sym, ap, ◌∙◌}
+use Rattle.std.proofs.Common.{◌≡◌, ℤ, true, List, [], ◌∷◌, Option, Some, None, Ok, IsSome, refl, sym, ap, ◌∙◌}
 use Rattle.std.specs.FinMap.{get}
 use Rattle.std.specs.Option.{option_map}
 use Rattle.selective_undo.specs.Changes.{apply, inverse}
@@ -23,13 +23,13 @@ use Rattle.wb_edit.proofs.Trees.{seen_value}
 use Rattle.wb_log.specs.Records.{element_reads}
 
 key_fits : (kind : Kind) (i : Index) → is_key kind i ≡ true → fits kind i ≡ Ok tt
-key_fits kind i e = rw e refl
+key_fits kind i e = rw (e, fits) refl
 
 some_there : (o : Option Value) → IsSome o → is_there o ≡ Ok tt
 some_there o there = elim o as (λ p. IsSome p → is_there p ≡ Ok tt) [ Some w ↦ λ h. refl | None ↦ λ h. cc ] there
 
 module _ (s : Cells) (formed : IsWellFormed s) (a : Name) (i : Index) (v : ℤ) (there : IsSome (get s (Element a i))) where
-  last : Tree
+  abbrev last : Tree
   last = write (set_to (Element a i) (Number v) ∷ [])
 
   pub set_accepted : outcome (set a i v) s ≡ Ok (element_set a i v)
