@@ -1,8 +1,6 @@
 -- A new value of an element that is there: it is accepted, and what it reads and takes back follows from what the element was.
-use Rattle.std.proofs.Common.{◌≡◌, ℤ, true, List, [], ◌∷◌, Option, Some, None, Ok, IsSome, refl, sym, ap, ◌∙◌}
+use Rattle.std.proofs.Common.{◌≡◌, ℤ, true, [], ◌∷◌, Option, Some, None, Ok, IsSome, refl, ap, ◌∙◌}
 use Rattle.std.specs.FinMap.{get}
-use Rattle.std.specs.Option.{option_map}
-use Rattle.selective_undo.specs.Changes.{apply, inverse}
 use Rattle.selective_undo.specs.Edit.{outcome, reads, write}
 use Rattle.wb_book.proofs.Formed.{element_of}
 use Rattle.wb_book.specs.Kept.{element_set}
