@@ -1,4 +1,4 @@
-use Rattle.std.proofs.Common.{◌≡◌, ◌≤◌, ◌<◌, ◌∙◌, ◌-◌, suc, length, option_map, ap, rules, arith}
+use Rattle.std.proofs.Common.{◌≡◌, ◌<◌, ◌∙◌, ◌-◌, suc, length, option_map, ap, arith}
 use Rattle.wb_protocol.specs.Explained.{at_place}
 use Rattle.wb_protocol.proofs.Told.{told_before}
 use Rattle.wb_protocol.proofs.explaining.commands.commands_explained.Goals as goal
