@@ -9,7 +9,7 @@ from typing import Optional
 
 from tests.support import PROGRAM, Server, Terminal
 from tests.test_streams import RedisAlike
-from workbook_client import SessionEnded, Workbook, away, hearing
+from workbook_client import OutOfDomain, SessionEnded, Workbook, away, hearing
 from workbook_client.hearing import News
 from workbook_client.session import Session
 
@@ -49,7 +49,15 @@ C[2..3, 0..1] = 5
 P["a..b"] = P["{x"] - 1
 F = {1..4}
 D = F
-drop F"""
+drop F
+begin
+A[ 1..<3 ] = 4
+F = { 1..#4 } dmapped  cyclicDist( 1,[2] )
+commit "a {plan} of [2..3]"
+begin
+F = {1..#2}
+A[4] = 1
+commit"""
 """Edits of each kind, with literals that a history spells in another way."""
 
 
@@ -110,6 +118,16 @@ class AtATerminal(unittest.TestCase):
         self.types("A[1] = 7", "there again, with 0 edits. It isn't the workbook that this session knew, which had 3 edits")
         self.types("history", "no edits yet")
         self.types("D = {1..2}", "edit 1, 3 cells")
+
+    def test_what_is_gathered_stays_gathered(self):
+        """A commit that wasn't sent is made once the workbook is there."""
+        for line, prompt in (("begin", "(0 begun)> "), ("A[1] = 7", "(1 begun)> "), ("A[2] = 8", "(2 begun)> ")):
+            self.terminal.types(line + "\n")
+            self.terminal.until(prompt)
+        self.restarts(self.history())
+        told = self.types('commit "why"', "there again, with 3 edits; nothing was done meanwhile still gathered, and not made: 2 edits")
+        self.assertIn("edit 4, 2 cells: why", told)
+        self.types("note 4", "edit 4: why 1: A[1] = 7 2: A[2] = 8")
 
     def test_it_is_waited_for(self):
         text = self.history()
@@ -173,6 +191,45 @@ class Answers(unittest.TestCase):
         self.assertEqual(hearing.hear_again(book), News(1, 2, True, [], [], []))
         self.assertEqual((list(book.edits), book["D"].size), ([1], 4))
 
+    def test_a_transaction_that_was_sent(self):
+        """It is told as any other line, and isn't gathered any more; one that wasn't sent is."""
+        server = Server(seats=1)
+        self.addCleanup(server.close)
+        book = server.connect()
+        self.addCleanup(book.close)
+        session = self.session(book)
+        for line in ("D = {1..4}", "A over D", "begin", "A[1] = 5", "A[2] = 6"):
+            session.line(line)
+        server.kill()
+        self.said.truncate(0)
+        with self.assertRaises(SessionEnded):
+            session.line('commit "March forecast"')
+        away.tell_unanswered(session)
+        self.assertEqual(self.told().strip("\0 "), 'sent and not answered, so perhaps done: "March forecast": A[1] = 5; A[2] = 6')
+        self.assertEqual((session.gathered(), session.begun), (0, None))
+        for line in ("begin", "A[3] = 7"):
+            session.line(line)
+        with self.assertRaises(SessionEnded):
+            session.line("commit")
+        self.assertEqual((session.gathered(), len(book.exchange.on_their_way())), (1, 1))
+
+    def test_a_transaction_in_a_journal(self):
+        """It is there whole or not at all, and one change of the file."""
+        with tempfile.TemporaryDirectory() as place:
+            path = os.path.join(place, "plan.wb")
+            with Workbook.run(PROGRAM, journal=path) as book:
+                with book.transaction("a plan"):
+                    A = book.array("A", book.domain("D", range(1, 5)))
+                    A[1] = 5
+                with self.assertRaises(OutOfDomain), book.transaction("never"):
+                    A[2], A[9] = 6, 7
+                os.kill(book.exchange.channel._process.pid, signal.SIGKILL)
+            with open(path, encoding="utf-8") as file:
+                lines = [line for line in file if '"op"' in line]
+            self.assertEqual((len(lines), '"note":"a plan"' in lines[0], "never" in lines[0]), (1, True, False))
+            with Workbook.run(PROGRAM, journal=path) as book:
+                self.assertEqual((list(book["A"]), book.edits[1].note, len(book.edits[1].parts)), ([5, 0, 0, 0], "a plan", 3))
+
     def test_a_program_with_a_journal(self):
         """Another program goes on from what the one that was killed had answered."""
         with tempfile.TemporaryDirectory() as place, Workbook.run(PROGRAM, journal=os.path.join(place, "plan.wb")) as book:
@@ -195,14 +252,14 @@ class Answers(unittest.TestCase):
         self.addCleanup(server.close)
         book = server.connect()
         self.addCleanup(book.close)
-        book.array("A", book.domain("D", range(1, 5)))
+        book.array("A", book.domain("D", range(1, 20_001)))
         session = self.session(book)
         with tempfile.NamedTemporaryFile("w", suffix=".csv") as file:
-            file.write("1,2,3,4\n")
+            file.write("\n".join(str(10**9 + at) for at in range(20_000)) + "\n")  # more than a line holds, so a block of `trying`
             file.flush()
-            asked = book.snapshot
-            book.snapshot = lambda: (asked(), server.kill())[0]  # type: ignore[method-assign, func-returns-value]
-            with self.assertRaisesRegex(SessionEnded, "1 request without a reply, since .* has closed the connection"):
+            asked = book.shapes
+            book.shapes = lambda: (asked(), server.kill())[0]  # type: ignore[method-assign, func-returns-value]
+            with self.assertRaisesRegex(SessionEnded, "[1-4] requests? without a reply, since .* has closed the connection"):
                 session.line(f"import A {file.name}")
         self.assertEqual(self.told(), "")
 

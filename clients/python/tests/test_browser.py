@@ -387,6 +387,82 @@ class Page(InABrowser):
         self.says(browser, "Ben\ufffd took it back")
         self.assertEqual(browser.faults, [])
 
+    def test_what_a_transaction_did_unfolds(self):
+        """The history shows the note and, folded, the first edits; a click shows them all, another one folds them again."""
+        book = Workbook.run(PROGRAM)
+        A = book.array("A", book.domain("D", range(1, 400)))
+        with book.transaction("March\u202e forecast"):
+            for index in range(1, 6):
+                A[index] = index * index
+        with book.transaction("once"):
+            A[1] = 7
+        browser = self.open(book)
+        row = ".edits li[data-k='3']"
+        browser.until(f"document.querySelectorAll('.edits li[data-k]').length === 4")
+        self.assertEqual(browser.text(row + " .why"), "March\ufffd forecast")
+        self.assertEqual(browser.text(row + " .what"), "March\ufffd forecast\nA[1] = 1; A[2] = 4; A[3] = 9; and 2 more")
+        self.assertEqual(browser.text(".edits li[data-k='4'] .what"), "once\nA[1] = 7")
+        self.assertEqual(browser.js("document.querySelectorAll('.fold').length"), 1)
+        did = f"[...document.querySelectorAll(\"{row} .did li\")].map(x => x.innerText).join()"
+        for _ in range(2):
+            self.assertEqual((browser.text(row + " .fold"), browser.js(did)), ("5 edits", ""))
+            browser.click(row + " .fold")
+            browser.until(f"{did} === 'A[1] = 1,A[2] = 4,A[3] = 9,A[4] = 16,A[5] = 25'")
+            self.assertEqual(browser.js(f"document.querySelector(\"{row} .fold\").ariaExpanded"), "true")
+            browser.js("document.activeElement.blur()")
+            self.line(browser, "A[9] = 1")  # it stays unfolded while others come
+            self.assertEqual(browser.js("document.querySelectorAll('.did li').length"), 5)
+            browser.click(row + " .fold")
+            browser.until("document.querySelectorAll('.did').length === 0")
+        with self.held() as held, held.transaction("many"):
+            for index in range(1, 312):
+                A[index] = 0
+        browser.until("document.querySelector('.edits li').dataset.k === '7'")
+        browser.click(".edits li[data-k='7'] .fold")
+        browser.until("document.querySelectorAll('.did li').length === 301")
+        self.assertEqual(browser.text(".did li:last-child"), "and 11 more")
+        self.assertEqual(browser.faults, [])
+
+    def test_a_note_goes_with_the_next_edit(self):
+        """Whatever that is; it stays where it is refused, and a question takes none."""
+        browser = self.open(Workbook.run(PROGRAM))
+        browser.do("Browser.grantPermissions", permissions=["clipboardReadWrite", "clipboardSanitizedWrite"])
+        self.line(browser, "D = {1..3}", "A over D")
+        value = "document.getElementById('note').value"
+        whys = "[...document.querySelectorAll('.edits li[data-k]')].map(x => x.querySelector('.why')?.innerText ?? '').reverse().join()"
+
+        def noted(text):
+            browser.click("#note")
+            browser.type(text)
+
+        noted("of March")
+        browser.click(CELL.format("1"))
+        browser.keys("5")
+        browser.key("Enter")
+        browser.until(f"{whys} === ',,of March' && {value} === ''")
+        noted("typed first")
+        self.line(browser, "A[1]")
+        self.assertEqual(browser.js(value), "typed first")
+        self.line(browser, "A[9] = 1")
+        self.assertIn("A[9] = 1: the index or locale isn't there", browser.text("#said"))
+        self.assertEqual(browser.js(value), "typed first")
+        browser.click(CELL.format("1"))
+        browser.js("navigator.clipboard.writeText('7\\t8')")
+        browser.key("v", CTRL)
+        browser.until(f"{whys} === ',,of March,typed first' && {value} === ''")
+        browser.key("v", CTRL)
+        browser.until(f"{whys} === ',,of March,typed first,paste'")
+        browser.js("document.getElementById('note').value = 'no \\\\'")
+        self.line(browser, "A[1] = 6")
+        self.says(browser, "a note has 256 bytes at most")
+        self.line(browser, "undo 5")
+        self.says(browser, "edit 5 is taken back")
+        self.assertEqual(browser.js(value), "no \\")
+        browser.js("document.getElementById('note').value = ''")
+        self.line(browser, "begin")
+        self.says(browser, "Here a paste is one edit")
+        self.assertEqual(browser.faults, [])
+
     def test_what_others_do_appears(self):
         server = Server(seats=2)
         self.addCleanup(server.close)

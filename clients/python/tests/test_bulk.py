@@ -3,7 +3,7 @@
 import unittest
 
 from tests.support import PROGRAM
-from workbook_client import OutOfDomain, Overflow, Workbook, WrongKind, bulk, requests
+from workbook_client import OutOfDomain, Overflow, TransactionTooLong, Workbook, WrongKind, bulk, requests
 
 try:
     import numpy
@@ -127,7 +127,7 @@ class Bulk(unittest.TestCase):
         with self.assertRaises(OutOfDomain):
             A.update({1: 5, 9: 6, 2: 7})
         self.assertEqual(list(A), [0, 0, 0])
-        self.assertEqual([e.cells for e in A.update({1: 2, 3: 3})], [1, 1])
+        self.assertEqual([(e.number, e.cells) for e in A.update({1: 2, 3: 3})], [(3, 2)])
         with self.assertRaises(Overflow), self.wb.trying():
             A.put([2**63 - 1, 1, 1])
             A += A
@@ -136,9 +136,47 @@ class Bulk(unittest.TestCase):
     def test_as_many_as_there_may_be(self):
         A = self.wb.array("A", self.wb.domain("D", "{1..256, 1..256}"))
         values = [[(row * column) % 7 for column in range(256)] for row in range(256)]
-        edits = A.put(values)
+        with self.assertRaisesRegex(TransactionTooLong, r"4 edits, from A\[1..64, 1..256\] = .* 131,314 bytes, and 65,536 are most"):
+            A.put(values)
+        with self.assertRaises(TransactionTooLong) as no:
+            A[:] = values
+        self.assertEqual(len(self.wb.history()), 2)
+        edits = A.put(values, parts=True)
         self.assertEqual([edit.cells for edit in edits], [16384] * 4)
         self.assertEqual(list(A), [value for row in values for value in row])
+        A[:] = 0
+        for part in no.exception.parts():
+            self.wb.transact(part)
+        self.assertEqual((list(A), self.wb.last_edit.number), ([value for row in values for value in row], 11))
+
+    def test_what_a_line_just_holds(self):
+        """Two puts that together fit into a line are one transaction."""
+        A = self.wb.array("A", self.wb.domain("D", range(1, 32_401)))
+        edits = A.put([at % 8 for at in range(32_400)])  # 64,800 bytes of numbers: more than one put has
+        self.assertEqual([(edit.number, edit.cells, edit.parts) for edit in edits], [(3, 32_400, [
+            "A[1..16200] = [0, 1, 2, 3, 4, 5, 6, 7, ...]", "A[16201..32400] = [0, 1, 2, 3, 4, 5, 6, 7, ...]"])])
+        self.assertEqual((A[16_200], A[16_201], A[32_400]), (16_199 % 8, 16_200 % 8, 32_399 % 8))
+
+    def test_many_single_ones(self):
+        """Over texts each number is an edit in one transaction; more than a line holds go in parts, all or none."""
+        names = [f"n{at:04}" for at in range(1700)]
+        T = self.wb.assoc("T", "text")
+        T |= set(names[:1500])
+        P = self.wb.array("P", T)
+        P[:] = list(range(1500))
+        self.assertEqual((self.wb.last_edit.number, self.wb.last_edit.cells), (4, 1500))
+        self.assertEqual(list(P), list(range(1500)))
+        nines = {name: 9 for name in names}
+        with self.assertRaises(TransactionTooLong) as no:
+            P.update(nines)
+        self.assertEqual((len(no.exception.edits), no.exception.edits[-1]), (1700, {"op": "set", "a": "P", "i": "n1699", "v": 9}))
+        with self.assertRaises(OutOfDomain) as gone:
+            P.update(nines, parts=True)
+        self.assertEqual(gone.exception.request["i"], "n1500")
+        self.assertEqual(list(P), list(range(1500)))
+        T |= set(names[1500:])
+        edits = P.update(nines, parts=True)
+        self.assertEqual((len(edits), sum(edit.cells for edit in edits), P.sum()), (2, 1700, 15_300))
 
     def test_a_table_of_pandas(self):
         class Frame:

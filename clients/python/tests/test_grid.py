@@ -244,7 +244,7 @@ class Grid(InABrowser):
         self.pastes(browser, "10\t20\r\n-30\t+40\r\n")
         self.says(browser, "4 cells of A set by edit 3")
         self.shows(browser, "A[3, 3]", 40)
-        self.assertEqual(self.edits(browser), ["A[2..3, 2..3] = [10, 20, -30, 40]"])
+        self.assertEqual(self.edits(browser), ["paste\nA[2..3, 2..3] = [10, 20, -30, 40]"])
         self.assertEqual(browser.js(CHOSEN), "A[2, 2] A[2, 3] A[3, 2] A[3, 3]")
         self.assertEqual(browser.js("document.querySelectorAll('.changed').length"), 0)  # what one does oneself isn't marked
         browser.key("z", CTRL)  # a paste is one edit
@@ -260,7 +260,7 @@ class Grid(InABrowser):
         self.says(browser, "6 cells of A set by edit 3")
         self.shows(browser, "A[1, 4]", 6)
         self.has("A", 0, 0, 0, 0, 1, 2, 3, 0, 4, 5, 6, 0)
-        self.assertEqual(self.edits(browser), ["A[1..5 by -4, 4..10 by -3] = [1, 2, 3, 4, 5, 6]"])
+        self.assertEqual(self.edits(browser), ["paste\nA[1..5 by -4, 4..10 by -3] = [1, 2, 3, 4, 5, 6]"])
         self.assertEqual(browser.js(CHOSEN), "A[5, 10] A[5, 7] A[5, 4] A[1, 10] A[1, 7] A[1, 4]")
         self.assertEqual(browser.faults, [])
 
@@ -280,7 +280,7 @@ class Grid(InABrowser):
         self.says(browser, "4 cells of B set by edit 6")
         self.shows(browser, "B[2, 2, 3]", 4)
         self.has("B", 0, 0, 0, 0, 0, 0, 0, 1, 2, 0, 3, 4)
-        self.assertEqual(self.edits(browser)[-1], "B[2..2, 1..2, 2..3] = [1, 2, 3, 4]")
+        self.assertEqual(self.edits(browser)[-1], "paste\nB[2..2, 1..2, 2..3] = [1, 2, 3, 4]")
         self.assertEqual(browser.faults, [])
 
     def test_pasting_many_numbers(self):
@@ -347,7 +347,9 @@ class Grid(InABrowser):
                 self.assertIn("2 lines of my\ufffd sales.csv", browser.text("#newtable"))
                 browser.key("Enter")
                 self.shows(browser, "mysales[2, 1]", number)
-        self.assertEqual(browser.js("document.querySelectorAll('.edits li[data-k]').length"), 4)
+        whys = browser.js("[...document.querySelectorAll('.edits li[data-k] .why')].map(x => x.innerText)")
+        self.assertEqual(whys, ["import my\ufffd sales.csv"] * 2)  # each is one edit, that of the new table with all that it made
+        self.assertEqual(browser.js("document.querySelectorAll('.edits li[data-k]').length"), 2)
         self.assertEqual(browser.faults, [])
 
     def test_headings_stay_in_sight(self):
@@ -425,8 +427,9 @@ class Grid(InABrowser):
         browser.do("Browser.grantPermissions", permissions=["clipboardReadWrite", "clipboardSanitizedWrite"])
         browser.click(cell("A[1, 1]"))
         self.pastes(browser, "1\t\t2")
-        self.says(browser, "2 cells of A set by 2 edits")
+        self.says(browser, "2 cells of A set by edit 7")
         self.shows(browser, "A[1, 3]", 2)
+        self.assertEqual(self.edits(browser)[-1], "paste\nA[1, 1] = 1; A[1, 3] = 2")
         browser.key("a", CTRL)
         browser.key("c", CTRL)
         self.says(browser, "3 cells of A copied")
@@ -457,7 +460,7 @@ class Grid(InABrowser):
         self.assertEqual(browser.faults, [])
 
     def test_filling_where_there_are_no_ranges(self):
-        """Then each cell is set by itself."""
+        """Then each cell is set, by one edit."""
         book = Workbook.run(PROGRAM)
         people = book.assoc("People", "text")
         people |= {"Ada", "Emmy", "Sofja"}
@@ -467,8 +470,10 @@ class Grid(InABrowser):
         browser.key("ArrowRight", SHIFT)
         browser.keys("4")
         browser.key("Enter", CTRL)
-        self.says(browser, "2 cells of Left set by 2 edits")
+        self.says(browser, "2 cells of Left set by edit 4")
         self.has("Left", 4, 4, 0)
+        browser.until("document.querySelectorAll('.edits li[data-k]').length === 4")
+        self.assertEqual(self.edits(browser), ["Left over People", 'Left["Ada"] = 4; Left["Emmy"] = 4'])
         self.assertEqual(browser.faults, [])
 
     def test_planes(self):

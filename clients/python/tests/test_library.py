@@ -132,7 +132,7 @@ class Basics(Case):
             A.to_dict()
         self.wb.undo()
         self.assertEqual(A[1], 16)
-        self.assertEqual([e.cells for e in A.update({1: 2, 4: 3})], [1, 1])
+        self.assertEqual([e.cells for e in A.update({1: 2, 4: 3})], [2])
         self.assertEqual(list(A), [2, 16, 4, 3])
 
     def test_names(self):

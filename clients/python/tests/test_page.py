@@ -263,15 +263,17 @@ class Page(unittest.TestCase):
         for part in (-1, "1", None, True, 1.5):
             self.assertFalse(self.ask("/do", {"op": "turn", "a": "AD", "part": part})[1]["ok"])
 
-    def test_pasted_cells_are_edits_of_their_own(self):
-        """Where no ranges say which they are."""
+    def test_pasted_cells_are_one_edit(self):
+        """Also where no ranges say which they are. It has a note, which is another one where one was typed."""
         self.open(Workbook.run(PROGRAM))
         self.lines("D = {1..2, 1..2}", "A over D", "T = text", 'T += "x"', "P over T")
         told = self.ask("/do", {"op": "paste", "a": "A", "cells": [["1, 1", "5"], ["1, 2", "+6"], ["2, 1", "-7"]]})[1]
-        self.assertEqual((told["ok"], told["say"].strip()), (True, "3 cells of A set by 3 edits, 6 to 8, of which each is taken back by itself"))
-        self.assertTrue(self.ask("/do", {"op": "paste", "a": "P", "cells": [['"x"', "4"]]})[1]["ok"])
-        edits = self.ask("/state")[1]["edits"]
-        self.assertEqual([e["what"] for e in edits[5:]], ["A[1, 1] = 5", "A[1, 2] = 6", "A[2, 1] = -7", 'P["x"] = 4'])
+        self.assertEqual((told["ok"], told["say"].strip()), (True, "3 cells of A set by edit 6"))
+        told = self.ask("/do", {"op": "paste", "a": "P", "cells": [['"x"', "4"]], "note": "of March"})[1]
+        self.assertEqual((told["ok"], told["noted"]), (True, True))
+        self.assertEqual(self.ask("/do", {"op": "paste", "a": "A", "cells": [["1, 1", "5"], ["2, 1", "-7"]], "fills": True})[1]["noted"], False)
+        self.assertEqual([(e["note"], e["what"], e["parts"]) for e in self.ask("/state")[1]["edits"][5:]], [
+            ("paste", "A[1, 1] = 5; A[1, 2] = 6; A[2, 1] = -7", 3), ("of March", 'P["x"] = 4', 1), ("", "A[1, 1] = 5; A[2, 1] = -7", 2)])
         before = self.ask("/history")[1]
         for array, cells, words in (
             ("A", [["1, 1", "1"], ["1, 2", "1.5"]], "whole numbers only: 1.5 isn't one"),
@@ -291,6 +293,40 @@ class Page(unittest.TestCase):
         told = self.ask("/do", {"op": "paste", "a": "A", "cells": [["1, 1", "1"], ["3, 3", "2"]]})[1]  # the program refuses the second
         self.assertEqual((told["ok"], "E06" in told["say"]), (False, True))
         self.assertIn("array A over D [5, 6, -7, 0]", self.ask("/text")[1])
+
+    def test_what_a_transaction_did(self):
+        """Its edits are told where they are asked for, and of many the first ones."""
+        book = Workbook.run(PROGRAM)
+        A = book.array("A", book.domain("D", range(1, 1001)))
+        with book.transaction("squares"):
+            for index in range(1, 311):
+                A[index] = index * index
+        self.open(book)
+        told = self.ask("/parts?k=3")[1]
+        self.assertEqual((told["ok"], told["k"], len(told["parts"]), told["more"]), (True, 3, 300, 10))
+        self.assertEqual(told["parts"][299], "A[300] = 90000")
+        self.assertEqual(self.ask("/parts?k=1")[1], {"ok": True, "k": 1, "parts": [], "more": 0})
+        self.assertEqual(self.ask("/parts?k=9")[1]["parts"], [])
+        self.assertEqual((self.ask("/parts?k=x")[0], self.ask("/parts")[0]), (400, 400))
+        edit = self.ask("/state")[1]["edits"][2]
+        self.assertEqual((edit["note"], edit["what"], edit["parts"]), ("squares", "A[1] = 1; A[2] = 4; A[3] = 9; and 307 more", 310))
+
+    def test_a_note_of_a_line(self):
+        self.open(Workbook.run(PROGRAM))
+        told = self.ask("/do", {"line": "D = {1..2}", "note": "a plan"})[1]
+        self.assertEqual((told["ok"], told["say"], told["noted"]), (True, "  edit 1, 3 cells", True))
+        self.assertEqual(self.ask("/do", {"line": "size D", "note": "a plan"})[1]["noted"], False)
+        self.assertEqual(self.ask("/do", {"line": "D = {1..", "note": "a plan"})[1]["noted"], False)
+        told = self.ask("/do", {"line": "E = {1..9223372036854775807}", "note": "a plan"})[1]
+        self.assertEqual((told["ok"], told["noted"], told["code"]), (False, False, "E09"))
+        for wrong in ('a "plan"', "x" * 257):
+            self.assertIn("a note has 256 bytes at most", self.ask("/do", {"line": "A over D", "note": wrong})[1]["say"])
+        self.assertTrue(self.ask("/do", {"op": "table", "a": "T", "text": "1,2\n3,4\n", "file": 'my "plan".csv'})[1]["ok"])
+        self.assertTrue(self.ask("/do", {"op": "table", "a": "U", "text": "1,2\n3,4\n"})[1]["ok"])
+        self.assertEqual([(e["note"], e["parts"]) for e in self.ask("/state")[1]["edits"]], [("a plan", 1), ("import my ?plan?.csv", 3), ("paste", 3)])
+        for line in ("begin", "commit", "abandon"):
+            self.assertIn("That is for the terminal", self.lines(line)["say"])
+        self.assertEqual(self.lines("note 2")["say"].splitlines()[0], "  edit 2: import my ?plan?.csv")
 
     def test_what_is_taken_back_here_is_put_back_here(self):
         self.open(Workbook.run(PROGRAM))

@@ -7,7 +7,7 @@ import tempfile
 import unittest
 from typing import Optional
 
-from tests.browser import Browser, InABrowser
+from tests.browser import CTRL, Browser, InABrowser
 from tests.support import PROGRAM, Server, Terminal
 from workbook_client import Workbook
 
@@ -108,13 +108,35 @@ class Away(InABrowser):
             self.says_it_is_there(browser, "is there again, with 3 edits; nothing was done meanwhile", "perhaps done: A[2] = 6")
             self.assertEqual(browser.js("document.getElementById('words').value"), "A[2] = 6")  # what had no answer stays there
             browser.js("document.getElementById('words').value = ''")
+            browser.click("#note")
+            browser.type("why")
             self.line(browser, "A[2] = 7")
             self.shows(browser, "A[2]", 7)
             with self.held() as now:
-                self.assertEqual(list(now["A"]), [5, 7])
+                self.assertEqual((list(now["A"]), now.note(4)), ([5, 7], "why"))
             with open(path, encoding="utf-8") as file:
                 changes = [line for line in file if '"op"' in line]
             self.assertEqual((len(changes), '"v":7' in changes[-1]), (4, True))  # what had no answer isn't sent again
+
+    def test_a_transaction_that_was_not_answered(self):
+        """A paste is told with its note, and the history of the file says whether it was done: not, since its program was stopped."""
+        with tempfile.TemporaryDirectory() as place:
+            book = Workbook.run(PROGRAM, journal=os.path.join(place, "plan.wb"))
+            browser = self.open(book)
+            browser.do("Browser.grantPermissions", permissions=["clipboardReadWrite", "clipboardSanitizedWrite"])
+            self.line(browser, "D = {1..2}", "A over D")
+            browser.click(CELL)
+            self.dies(book, signal.SIGSTOP)
+            browser.js("navigator.clipboard.writeText('7\\t8')")
+            browser.key("v", CTRL)
+            self.says(browser, "No answer yet, so it is waited for: 2 cells of A")
+            self.dies(book)
+            self.says_it_is_away(browser, 'Sent and not answered, so perhaps done: "paste": A[1..2] = [7, 8].')
+            self.says_it_is_there(browser, "is there again, with 2 edits; nothing was done meanwhile")
+            browser.click(CELL)
+            browser.key("v", CTRL)
+            self.shows(browser, "A[2]", 8)
+            self.assertEqual(browser.text(".edits li[data-k='3'] .why"), "paste")
 
     def test_a_program_whose_workbook_was_kept_nowhere(self):
         book = Workbook.run(PROGRAM)

@@ -14,6 +14,7 @@ from workbook_client import Workbook
 from workbook_client.language import WORDS
 from workbook_client.session import Session
 from workbook_client.tables import Cell, columns, elements_table, grid, plain
+from workbook_client.terminal import prompt
 
 PACKAGE = HERE.parents[1]
 
@@ -110,6 +111,56 @@ class Talk(unittest.TestCase):
         told = self.say("dependents 2").splitlines()
         self.assertEqual((told[0], told[39]), ("  edit 3: A[1] = A[1] + 1", "  edit 42: A[1] = A[1] + 1"))
         self.assertEqual(told[40:], ["  and 20 more", "  cascade 2 takes back 62, 61, 60, 59, 58, 57, 56, 55, .. and 2, 61 edits"])
+
+    def test_a_transaction(self):
+        """What is gathered is told, is in no question, and becomes one edit, of which the history has the note."""
+        self.say("D = {1..4}", "A over D")
+        self.assertIn("begun: what you change now is gathered", self.say("begin"))
+        self.assertEqual(self.say("A[1] = 5"), "  gathered, 1 edit so far\n")
+        self.assertEqual(self.say("A[1]"), "  0\n  without the 1 edit that is gathered\n")
+        self.assertEqual(self.say("E = {1..2}", "E = {1..3}", "B over E", "B += B", "B[3] = 7"), "  gathered, 6 edits so far\n")
+        self.assertEqual(self.say("names").splitlines()[-1], "  without the 6 edits that are gathered")
+        self.assertEqual(self.wb.counts(), (2, 10))
+        self.assertEqual(self.say("begin"), "  begun already, with 6 edits\n  1: A[1] = 5\n  2: E = {1..2}\n  3: E = {1..3}\n  4: B over E\n"
+                                            "  5: B += B\n  6: B[3] = 7\n")
+        self.assertEqual(self.say('commit "March forecast"'), "  edit 3, 10 cells: March forecast\n")
+        self.assertEqual(self.say("note 3").splitlines()[:3], ["  edit 3: March forecast", "  1: A[1] = 5", "  2: E = {1..2}"])
+        self.assertEqual(self.say("note 2"), "  edit 2 has no note\n")
+        self.assertIn("E11, no-such-edit", " ".join(self.say("note 4").split()))
+        self.assertIn('│ 3    │ me  │ "March forecast": A[1] = 5;', self.say("history"))
+        self.assertEqual(self.say("A[1]"), "  5\n")
+        self.assertIn('edit 3 is taken back, 10 cells: "March forecast": A[1] = 5', self.say("undo"))
+        self.assertIn("nothing is called B", self.say("B"))
+
+    def test_a_transaction_that_is_refused_or_dropped(self):
+        """It stays gathered where it is refused."""
+        self.say("D = {1..4}", "A over D", "begin", "A[1] = 5", "A[9] = 6", "A[2] = 7")
+        told = " ".join(self.say('commit "why"').split())
+        self.assertIn("edit 2 of 3, A[9] = 6: the index or locale isn't there; look at the domain, or let it grow first. (E06, out-of-domain) "
+                      "Nothing of the transaction was made. what is gathered stays gathered: `abandon 2` leaves that edit out, `abandon` drops all "
+                      "A over D = {1..4}", told)
+        self.assertEqual((self.session.gathered(), self.wb.counts()[0]), (3, 2))
+        self.assertEqual(self.say("abandon 2"), "  left out: A[9] = 6; 2 edits gathered\n")
+        self.assertIn("no edit is gathered at place 3: there are 2", self.say("abandon 3"))
+        self.assertIn("a note has 256 bytes at most", self.say('commit "a\\b"'))
+        self.assertEqual(self.say("commit"), "  edit 3, 2 cells\n")
+        for line in ("commit", "abandon", "abandon 1"):
+            self.assertIn("no transaction was begun: `begin` begins one", self.say(line))
+        self.assertEqual(self.say("begin", "A[1] = 6", "abandon"), "  1 edit dropped, and nothing changed\n")
+        self.assertEqual(self.say("begin", 'commit "why"'), "  nothing was gathered, so nothing changed\n")
+        self.say("begin")
+        for line in ("undo", "redo 3", "cascade 3", "load x", "import B x"):
+            with self.subTest(line):
+                self.assertIn("is no part of a transaction: commit it first, or abandon it", self.say(line))
+                self.assertTrue(self.session.failed)
+        self.assertEqual(self.wb.counts()[0], 3)
+
+    def test_a_line_that_is_not_read_in_a_transaction(self):
+        self.say("begin", "D = {1..4}", "E = {1..9223372036854775807}")
+        told = " ".join(self.say("commit").split())
+        self.assertIn("edit 2 of 2, E = {1..9223372036854775807}", told)
+        self.assertIn("`abandon 2` leaves that edit out", told)
+        self.assertIn("edit 1, 3 cells", self.say("abandon 2", "commit"))
 
     def test_a_blocked_redo(self):
         told = self.say("D = {1..4}", "A over D", "A[1] = 5", "undo 3", "A[1] = 6", "redo 3")
@@ -216,7 +267,7 @@ class Talk(unittest.TestCase):
         told = self.say("undo 3")
         self.assertIn("Blocked by edit 4 of another seat (A[1] = 6): it is later", told)
         self.assertIn("│ 4    │ another │ A[1] = 6   │       │ in force │", self.say("history"))
-        other["A"].update({2: 8, 3: 9})
+        other["A"][2], other["A"][3] = 8, 9
         told = self.say("A[1] = 7").splitlines()
         self.assertEqual(told, ["  edit 7, 1 cell", "  before it came edits 5 and 6 of other seats; history shows what everybody did"])
         self.assertEqual(self.say("A[1] = 8"), "  edit 8, 1 cell\n")
@@ -248,6 +299,15 @@ class Whole(unittest.TestCase):
         )
         self.assertEqual(gone.returncode, 3)
         self.assertIn("there is no program", gone.stderr)
+
+    def test_a_script_that_begins_a_transaction(self):
+        """Nothing of it is made unless it is committed, whatever ends the script."""
+        done = self.run_with("D = {1..4}\nbegin\nA over D\nA[1] = 5\ncommit \"a plan\"\n")
+        self.assertEqual((done.returncode, done.stdout.splitlines()[-1]), (0, "  edit 2, 7 cells: a plan"))
+        for end in ("", "quit\n", "A[1 = 5\n"):
+            left = self.run_with("D = {1..4}\nbegin\nA over D\nE over D\n" + end)
+            self.assertEqual((left.returncode, left.stdout.splitlines()[-1]), (1, "  2 edits are gathered and not made, since no commit came"))
+        self.assertEqual(self.run_with("begin\n").returncode, 0)
 
     def test_what_is_no_program_and_no_server_is_told_in_a_sentence(self):
         with tempfile.TemporaryDirectory() as place:
@@ -369,6 +429,27 @@ class Whole(unittest.TestCase):
             terminal.types("\x04")
             self.assertEqual(terminal.ends(), 0)
 
+    def test_what_is_gathered_stands_in_the_prompt_and_is_asked_about(self):
+        with tempfile.TemporaryDirectory() as place:
+            terminal = self.at_a_terminal(os.path.join(place, "plan.wb"))
+            for line, prompt in (("D = {1..4}", ""), ("begin", " (0 begun)"), ("A over D", " (1 begun)"), ("A[1] = 5", " (2 begun)"), ("A[1 = 5", " (2 begun)")):
+                terminal.until("> ")
+                terminal.types(line + "\n")
+                told = terminal.until(f"workbook{prompt}> ")
+                terminal.types("\n")
+            self.assertIn("\n" + " " * (len("workbook (2 begun)> ") + 4) + "^", told.replace("\r", ""))
+            for leave in ("quit\n", "\x04"):
+                terminal.until("> ")
+                terminal.types(leave)
+                self.assertIn("2 edits are gathered and not made, and would be gone; commit makes them", terminal.until("[y/N] "))
+                terminal.types("n\n")
+            terminal.until("> ")
+            terminal.types('commit "a plan"\n')
+            terminal.until("edit 2, 7 cells: a plan")
+            terminal.until("workbook> ")
+            terminal.types("quit\n")
+            self.assertEqual(terminal.ends(), 0)
+
     def test_a_session_where_nothing_was_done_is_left_at_once(self):
         for leave in ("quit\n", "\x04"):
             terminal = self.at_a_terminal()
@@ -390,16 +471,17 @@ class Whole(unittest.TestCase):
         self.assertEqual(told.stdout.splitlines(), wanted, told.stderr)
 
     def test_the_transcript_of_the_readme(self):
+        """And the transaction below it, which goes on from there."""
         text = (PACKAGE / "README.md").read_text(encoding="utf-8")
-        wanted = re.search(r"<!-- transcript -->\n```text\n(.*?)```", text, re.S)[1]
-        lines = re.findall(r"^workbook> (.*)$", wanted, re.M)
-        out = io.StringIO()
+        blocks = [re.search(rf"<!-- {name} -->\n```text\n(.*?)```", text, re.S)[1] for name in ("transcript", "a transaction")]
         with Workbook.run(PROGRAM) as wb:
-            session = Session(wb, out, width=80)
-            for line in lines:
-                session.say("workbook> " + line)
-                session.line(line, "workbook> ")
-        self.assertEqual(out.getvalue(), wanted)
+            session = Session(wb, io.StringIO(), width=80)
+            for wanted in blocks:
+                session.out = io.StringIO()
+                for line in re.findall(r"^workbook(?: \(\d+ begun\))?> (.*)$", wanted, re.M):
+                    session.say(prompt(session) + line)
+                    session.line(line, prompt(session))
+                self.assertEqual(session.out.getvalue(), wanted)
 
 
 if __name__ == "__main__":

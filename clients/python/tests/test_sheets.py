@@ -138,7 +138,7 @@ class In(Sheets):
         T = wb.assoc("T", "text")
         T |= {"Ada", "Ben", "7"}
         P = wb.array("P", T)
-        self.assertEqual([e.what for e in P.from_csv(io.StringIO("Ben,4\n7,5\n"))], ['P["Ben"] = 4', 'P["7"] = 5'])
+        self.assertEqual([e.parts for e in P.from_csv(io.StringIO("Ben,4\n7,5\n"))], [['P["Ben"] = 4', 'P["7"] = 5']])
         self.assertEqual(P.to_dict(), {"7": 5, "Ada": 0, "Ben": 4})
         P.from_csv(io.StringIO("who,hours\nAda,9\n"))
         P.from_csv(io.StringIO("hours\n1\n2\n3\n"))
@@ -324,7 +324,7 @@ class BySession(unittest.TestCase):
 
     def test_a_new_table_has_its_titles(self):
         told = self.say(f"import Hours {self.file(HOURS)}")
-        self.assertIn("Hours is new, and has the numbers of the file, by edits 1 to 14, of which each is taken back by itself", told)
+        self.assertIn("Hours is new, and has the numbers of the file, by edit 1", told)
         self.assertEqual(self.say("Hours").splitlines(), ["Hours over HoursDomain", *TITLED])
         self.assertEqual(self.say("show Hours / 10").splitlines()[0], "Hours over HoursDomain, shown / 10")
         self.assertIn("│ Emmy │ 0.4 │ 0.0 │ -0.6 │", self.say("show Hours / 10"))
@@ -333,7 +333,13 @@ class BySession(unittest.TestCase):
         self.assertEqual(self.say(f"export Hours {path}"), f"  {path}: 6 elements of Hours\n")
         with open(path, encoding="utf-8") as file:
             self.assertEqual(file.read(), HOURS.replace("who", ""))
-        self.assertIn("Hours has the numbers of the file, by edit 15\n", self.say(f"import Hours {path}"))
+        self.assertIn("Hours has the numbers of the file, by edit 2\n", self.say(f"import Hours {path}"))
+        self.assertEqual([edit.note for edit in self.wb.history()], ["import my plan.csv", "import out.csv"])
+        self.assertEqual(self.wb.history()[0].parts, [
+            "HoursDomain = {1..2, 1..3}", "Hours over HoursDomain", "Hours[1..2, 1..3] = [8, 8, 0, 4, 0, -6]",
+            "HoursRowTitles = text", 'HoursRowTitles = {"Ada", "Emmy"}', "HoursRow over HoursRowTitles", 'HoursRow["Ada"] = 1', 'HoursRow["Emmy"] = 2',
+            "HoursColumnTitles = text", 'HoursColumnTitles = {"Mon", "Tue", "Wed"}', "HoursColumn over HoursColumnTitles",
+            'HoursColumn["Mon"] = 1', 'HoursColumn["Tue"] = 2', 'HoursColumn["Wed"] = 3'])
         self.assertIn("1 │   8 │", self.say("label Hours rows", "Hours"))
         self.assertIn("Emmy │   4 │", self.say("label Hours rows HoursRow", "Hours"))
         self.assertIn("│ Ida │   4 │", self.say('HoursRowTitles -= "Emmy"', 'HoursRowTitles += "Ida"', 'HoursRow["Ida"] = 2', "Hours"))

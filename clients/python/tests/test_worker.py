@@ -17,7 +17,7 @@ from typing import List
 
 from tests.logs import NO_REDIS, Caller, RedisServer, WorkerProcess, all_at_once, has_redis, replayed
 from tests.support import HERE, PROGRAM
-from workbook_client import Blocked, NoAnswer, Workbook, keeping, log, worker
+from workbook_client import Blocked, NoAnswer, OutOfDomain, Workbook, keeping, log, worker
 from workbook_client.channel import command
 from workbook_client.redis import Redis, RedisGone, RedisRefused, place_of
 
@@ -379,6 +379,23 @@ class Client(Logs):
         with Workbook.stream(self.server.url, "other") as other:
             self.assertEqual(other.print_text(), "chapel-workbook 1\nend\n")
         self.assertEqual(worker.stop(), 0)
+
+    def test_a_transaction(self):
+        """It is one request of the log; another worker goes on from it, by a snapshot that has it."""
+        first = self.worker("one", "--lease", "1", "--every", "1")
+        with Workbook.stream(self.server.url, "plan") as book:
+            A = book.array("A", book.domain("D", range(1, 5)))
+            with book.transaction("through a log") as t:
+                A[1], A[2] = 5, 6
+            with self.assertRaises(OutOfDomain) as no, book.transaction():
+                A[3], A[9] = 7, 8
+            self.assertEqual((no.exception.at, list(A), t.edit.number), (1, [5, 6, 0, 0], 3))
+            self.assertEqual(first.stop(), 0)
+            second = self.worker("two", "--lease", "1")
+            self.assertEqual((book.note(3), book.history()[2].parts), ("through a log", ["A[1] = 5", "A[2] = 6"]))
+            book.undo(3)
+            self.assertEqual((list(A), book.counts()[0]), ([0, 0, 0, 0], 3))
+            self.assertEqual(second.stop(), 0)
 
     def test_no_worker(self):
         with Workbook.stream(self.server.url, "plan", timeout=0.2) as book:

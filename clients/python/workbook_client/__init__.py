@@ -13,6 +13,7 @@
 from .book import Workbook
 from .edits import Cascade, Edit, Pipeline
 from .errors import (
+    InTransaction,
     NoAnswer,
     NoNames,
     NoProgram,
@@ -26,6 +27,7 @@ from .errors import (
     WorkbookError,
 )
 from .exchange import Reading
+from .gathering import Transaction, TransactionTooLong
 from .literals import block, block_cyclic, cyclic
 from .journal import Compacted, compact
 from .objects import Array, Domain
@@ -61,9 +63,9 @@ __version__ = "0.1.0"
 
 __all__ = [
     "Array", "BadLiteral", "BadMapping", "BadRequest", "Blocked", "Cascade", "Compacted", "Domain", "Edit",
-    "Empty", "InForce", "InUse", "LineTooLong", "NameTaken", "NoAnswer", "NoFreeSeat", "NoMemory", "NoNames", "NoProgram",
+    "Empty", "InForce", "InTransaction", "InUse", "LineTooLong", "NameTaken", "NoAnswer", "NoFreeSeat", "NoMemory", "NoNames", "NoProgram",
     "NoSeat", "NoServer", "NoSuchEdit", "NoSuchName", "NotEmpty", "NotInForce", "NotOpened", "NotResumed",
     "NotTakenBack", "OutOfDomain", "OutOfParent", "Overflow", "Pipeline", "Reading", "Refusal", "RefusedInPlace",
-    "Served", "SessionEnded", "Snapshot", "StrangePass", "StrangeReply", "TooLarge", "Workbook",
-    "WorkbookError", "WrongKind", "block", "block_cyclic", "compact", "cyclic",
+    "Served", "SessionEnded", "Snapshot", "StrangePass", "StrangeReply", "TooLarge",
+    "Transaction", "TransactionTooLong", "Workbook", "WorkbookError", "WrongKind", "block", "block_cyclic", "compact", "cyclic",
 ]

@@ -57,6 +57,8 @@ def come_back(session: Session, end: Exception) -> News:
         session.say("")
         raise SessionEnded(f"left, while {where(session)} was away") from None
     tell_news(session, news)
+    if session.gathered():
+        session.wrapped(f"still gathered, and not made: {_edits(session.gathered())}")
     return news
 
 

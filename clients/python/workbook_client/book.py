@@ -1,7 +1,7 @@
 """A workbook: its session, its edits, and what is done to it as a whole."""
 
 from contextlib import contextmanager
-from typing import Any, Callable, Dict, Iterator, List, Optional, Tuple, Union
+from typing import Any, Callable, Dict, Iterable, Iterator, List, Optional, Tuple, Union
 
 from . import files, hearing, journal as journals, labels, notebook, requests, sheets, turning
 from .channel import Channel, Program, ProgramChannel, SocketChannel, command
@@ -9,11 +9,12 @@ from .edits import Cascade, Edit, Pipeline
 from .errors import NoAnswer, NoNames, NoSeat, NotResumed, SessionEnded, StrangeReply
 from .exchange import Exchange, Reading, Reply, first_refusal, text_of
 from .files import Source
-from .literals import Ranges
+from .gathering import Transaction, TransactionTooLong
+from .literals import Ranges, note as checked_note
 from .names import Names, Standing, standing
 from .objects import Array, Domain, ours
 from .rebuilding import rebuild
-from .refusals import BadRequest, LineTooLong, NoSuchName, NotEmpty, WrongKind
+from .refusals import BadLiteral, BadMapping, BadRequest, LineTooLong, NoSuchName, NotEmpty, Refusal, TooLarge, WrongKind, refusal
 from .requests import Request
 from .serving import Listening, Served
 from .snapshot import Snapshot
@@ -45,6 +46,7 @@ class Workbook:
         """Who did what at a desk that stays, once this session has said its name."""
         self.steps = turning.Steps(self)
         self._pipeline: Optional[Pipeline] = None
+        self._gathering: Optional[Transaction] = None
         self._anew: Optional[Callable[[], Workbook]] = None
         self._tell: Optional[Callable[[str], object]] = None
 
@@ -254,15 +256,15 @@ class Workbook:
 
     def from_csv(self, name: str, source: Source) -> Array:
         """A new array from a file of a spreadsheet, with a new rectangle from 1 on under it, and with an array of titles for words
-        before the rows or above the columns, with which this `Workbook` shows it; all or none. `Array.from_csv` is for an array
-        that is there."""
-        labels.new_table(self, name, sheets.guessed(sheets.cells_of(files.text_of(source))))
+        before the rows or above the columns, with which this `Workbook` shows it: one edit, with the note "import plan.csv", or where a
+        line would be too long as few as it takes, all or none. `Array.from_csv` is for an array that is there."""
+        labels.new_table(self, name, sheets.guessed(sheets.cells_of(files.text_of(source))), files.note_of(source))
         return Array(self, name)
 
     def from_dataframe(self, name: str, frame: Any) -> Array:
         """A new array from a table of pandas', as `from_csv` makes one; whole numbers only. What the table calls its rows and columns
         becomes titles, unless those are numbers."""
-        labels.new_table(self, name, sheets.of_frame(frame))
+        labels.new_table(self, name, sheets.of_frame(frame), "import of a DataFrame")
         return Array(self, name)
 
     def sparse(self, name: str, of: Union[str, Domain]) -> Domain:
@@ -323,6 +325,12 @@ class Workbook:
         """Every domain and array at one moment, whoever else is editing."""
         return Snapshot.read(self.print_text())
 
+    def shapes(self) -> Snapshot:
+        """A `snapshot` of which the domains alone count: in a transaction it may be asked for as long as that changes elements alone."""
+        if self._gathering is not None:
+            self._gathering.may_ask_shapes()
+        return Snapshot.read(self.exchange.ask(requests.print_text()).text("text"))
+
     # --- edits
 
     def undo(self, k: Optional[int] = None) -> Edit:
@@ -347,6 +355,11 @@ class Workbook:
     def in_force(self, k: int) -> bool:
         """Whether edit k is in force now."""
         return self.ask(requests.state(k)).truth("in_force")
+
+    def note(self, k: int) -> Optional[str]:
+        """The note of edit k, or None where it has none."""
+        reply = self.ask(requests.note(k))
+        return None if reply["note"] is None else reply.text("note")
 
     def blocker(self, k: int) -> Optional[int]:
         """The first edit that stands in the way of undoing k, or None."""
@@ -425,8 +438,12 @@ class Workbook:
         Undos and redos are turned round too. What others did meanwhile stays; where it stands in
         the way, `NotTakenBack` tells which edits are left. In a shared workbook that can also be
         an edit from before the block: one that wrote what an edit, undone in the block, had read.
-        In a pipeline, the replies of the block are read at its end.
+        In a pipeline, the replies of the block are read at its end. In a transaction nothing of the block stays gathered.
         """
+        if self._gathering is not None:
+            with self._gathering.kept():
+                yield
+            return
         pipeline = self._pipeline
         self.exchange.read_all()
         before = len(pipeline.refused) if pipeline else 0
@@ -439,18 +456,96 @@ class Workbook:
                 if refused:
                     raise first_refusal(refused, pipeline.sent)
 
+    @contextmanager
+    def transaction(self, note: Optional[str] = None) -> Iterator[Transaction]:
+        """Gathers the changes of a block, and sends them as one edit when it ends, with a note if one is given: all of them are made, or
+        none. Each of them gives that one edit, which has no number before. Nothing is sent where an exception leaves the block.
+
+        A refusal is that of the first edit that is refused, with its place `at`, from 0. `TransactionTooLong` where no line holds them:
+        nothing is sent then either, and the error has the edits. `InTransaction` where a question, after the first change, or an undo, a
+        redo or a `load` stands in the block. A transaction in another is part of that one, whose note counts.
+        """
+        if self._gathering is not None:
+            with self._gathering.kept():
+                yield self._gathering
+            return
+        self._gathering = gathering = Transaction(self, None if note is None else checked_note(note))
+        try:
+            yield gathering
+        except BaseException:
+            gathering.left()
+            raise
+        finally:
+            self._gathering = None
+        if gathering.edits:
+            self._transacted(requests.transaction(gathering.edits, gathering.note), gathering.edit)
+
     # --- for the objects, and for requests of one's own
+
+    def may_ask(self, request: Request) -> None:
+        """InTransaction where the transaction of this block leaves no room for a request."""
+        if self._gathering is not None:
+            self._gathering.may_ask(request)
 
     def ask(self, request: Request) -> Reply:
         """Sends a request and waits for its reply. A refusal is raised."""
+        self.may_ask(request)
         return self.exchange.ask(request)
 
     def change(self, request: Request) -> Edit:
-        """Sends a change. In a pipeline the edit is on its way; else its reply is here."""
+        """Sends a change. In a pipeline the edit is on its way; in a transaction it is gathered; else its reply is here."""
+        if self._gathering is not None:
+            return self._gathering.take(request)
+        return self._changed(request, Edit(self, "", self.who))
+
+    def transact(self, edits: Iterable[Request], note: Optional[str] = None) -> Edit:
+        """Sends several changes, as `workbook_client.requests` makes them, as one edit; in a `transaction` they are parts of that."""
+        request = requests.transaction(edits, note)
+        if self._gathering is not None:
+            return [self._gathering.take(edit) for edit in request["edits"]][0]
+        return self._transacted(request, Edit(self, "", self.who))
+
+    def as_one(self, changes: Iterable[Request], note: Optional[str] = None, parts: bool = False) -> List[Edit]:
+        """Sends changes as one edit, which is given in a list; nothing where there are none. Where a line doesn't hold them that is
+        `TransactionTooLong`, and with `parts` they are as few edits as it takes, all or none."""
+        wanted = list(changes)
+        if len(wanted) < 2 and note is None:
+            return [self.change(request) for request in wanted]
+        try:
+            return [self.transact(wanted, note)] if wanted else []
+        except TransactionTooLong as no:
+            if not parts:
+                raise
+            with self.trying(), self.pipeline():
+                return [edit for part in no.parts() for edit in self.as_one(part, note)]
+
+    def _transacted(self, request: Request, edit: Edit) -> Edit:
+        """Sends a transaction. Where the program doesn't read it, it is asked which edit in it is wrong."""
+        try:
+            return self._changed(request, edit)
+        except TransactionTooLong:
+            raise
+        except LineTooLong:
+            raise TransactionTooLong(request) from None
+        except (BadRequest, BadLiteral, BadMapping, TooLarge) as no:
+            raise self._placed(no) from None
+
+    def _placed(self, no: Refusal) -> Refusal:
+        """A refusal of a transaction that wasn't read, as one of the edit in it that is wrong, where the program tells which."""
+        if no.at is not None or no.request.get("op") != "transaction":
+            return no
+        try:
+            wrong = self.explain(no.request)
+        except (Refusal, SessionEnded):  # as a text in another line it is too long, or the session has ended since
+            return no
+        return no if wrong is None or "at" not in wrong else refusal(no.request, {**no.reply, "at": wrong["at"]}, no.hint)
+
+    def _changed(self, request: Request, edit: Edit) -> Edit:
+        """Sends a change that becomes this edit."""
         pipeline = self._pipeline
-        edit = Edit(self, requests.in_words(request), self.who)
+        edit.tell(request)
         reading = self.exchange.post(request, lambda it: self._heard(edit, it, pipeline))
-        edit._reading = reading
+        edit._reading, edit._unsent = reading, ""
         if pipeline is None:
             reading.wait()
         else:
@@ -460,7 +555,8 @@ class Workbook:
 
     def made(self, request: Request, reply: Reply) -> Edit:
         """The edit of a request that was asked and accepted."""
-        edit = self.last_edit = Edit(self, requests.in_words(request), self.who)
+        edit = self.last_edit = Edit(self, "", self.who)
+        edit.tell(request)
         self._number(edit, reply)
         return edit
 
@@ -477,6 +573,8 @@ class Workbook:
         self.steps.note("edit", edit._number)
 
     def _hint(self, request: Request, reply: Reply) -> str:
+        if "at" in reply and request.get("op") == "redo":
+            return self._which(request["k"], reply.number("at"))
         if "by" not in reply:
             return ""
         by = self.edits.get(reply["by"])
@@ -485,3 +583,8 @@ class Workbook:
         if request.get("op") == "undo":
             return f"{hint} Undo {reply['by']} first, or take both back: cascade {request.get('k')}."
         return f"{hint} Undo {reply['by']} first; redo it afterwards."
+
+    def _which(self, k: int, at: int) -> str:
+        """Which edit of a transaction stands in the way of its redo."""
+        parts = self.edits[k].parts if k in self.edits else []
+        return f" It is its edit {at + 1:,}" + (f", {parts[at]}." if at < len(parts) else ".")

@@ -9,8 +9,8 @@ from .literals import Index, integer
 from .requests import Request
 from .snapshot import AnyDomain, RectDomain
 
-LONGEST = 65_000
-"""The numbers of one `put` have so many bytes at most, so that its line is within 65,536."""
+LONGEST = 64_500
+"""The numbers of one `put` have so many bytes at most, so that it is within a line of 65,536, also in a transaction with a note."""
 
 
 def changes(array: str, domain: AnyDomain, values: Any) -> Iterator[Request]:

@@ -1,12 +1,13 @@
 /* The history beside the arrays: undo and redo of each edit, who is in the way, and what was taken back. */
 
-import {$, ask, button, make, needs, numbered, poll, put, state, tell, watch} from "./talk.js";
+import {$, ask, button, make, needs, numbered, parts, poll, put, state, tell, watch} from "./talk.js";
 
 let looked = null; // the edit whose cascade is looked at before it is done, and who goes in it
 let lastOn = null; // whether each edit was in force, as it was last shown
 const fresh = new Set(); // what others did since the marks were taken off
 let wanted = ""; // of which edits in sight it was last asked who needs them
 
+const open = new Map(); // what the edits of a transaction do, of those that are unfolded
 const rows = new Map(); // what is drawn of each edit, and what it was drawn of
 let lighted = null; // an edit that is shown for a while
 let noticed = ""; // what the notices were drawn of
@@ -19,6 +20,7 @@ const cellsOf = n => n + (n === 1 ? " cell" : " cells");
 export function showEdits() {
   const now = looked && state.edits.find(e => e.k === looked.k && e.on);
   if (looked) looked = now ? {k: now.k, needs: now.needs || looked.needs} : null;
+  for (const [k, {what}] of open) if (!state.edits.some(e => e.k === k && e.what === what)) open.delete(k);
   noteFresh();
   draw();
   lookAgain();
@@ -45,7 +47,7 @@ function earlier() {
 
 /** The item of an edit, drawn anew where something of it changed. */
 function drawn(e) {
-  const sign = JSON.stringify([e, state.alone, fresh.has(e.k), looked && looked.k === e.k ? looked.needs : null]);
+  const sign = JSON.stringify([e, state.alone, fresh.has(e.k), looked && looked.k === e.k ? looked.needs : null, open.has(e.k)]);
   if (rows.get(e.k)?.sign !== sign) rows.set(e.k, {sign, made: row(e)});
   return rows.get(e.k).made;
 }
@@ -84,11 +86,37 @@ function row(e) {
   const meta = make("span", "meta", make("span", "", facts.join(" · ")));
   const act = button("", e.on ? "undo" : "redo", () => ask({op: e.on ? "undo" : "redo", k: e.k}, act.textContent + " " + e.k));
   const made = make("li", (e.on ? "" : "off ") + (fresh.has(e.k) ? "fresh" : ""), make("span", "k", String(e.k)),
-    make("span", "what", e.what || "(by " + (e.by || "another seat") + ")"), act, meta);
+    make("span", "what", e.note ? make("span", "why", e.note) : null, e.note && open.has(e.k) ? null : inWords(e)), act, meta);
   made.dataset.k = e.k;
+  if (e.parts > 1) meta.append(fold(e));
+  if (open.has(e.k)) made.append(did(open.get(e.k)));
   if (e.on && e.needs && e.needs.length > 1) blocked(e, act, meta);
   if (looked && looked.k === e.k) made.append(leap());
   return made;
+}
+
+const inWords = e => e.what || "(by " + (e.by || "another seat") + ")";
+
+/** What folds the edits of a transaction, and unfolds them. */
+function fold(e) {
+  const made = button("link fold", (open.has(e.k) ? "fold " : "") + e.parts + " edits", () => turn(e));
+  made.setAttribute("aria-expanded", String(open.has(e.k)));
+  return made;
+}
+
+async function turn(e) {
+  if (!open.delete(e.k)) {
+    const told = await parts(e.k);
+    if (!told.ok) return tell(false, told.say);
+    open.set(e.k, {what: e.what, ...told});
+  }
+  draw();
+}
+
+/** What each edit of a transaction does, in their order. */
+function did(told) {
+  const lines = told.parts.map(part => make("li", "", part));
+  return make("ol", "did", ...lines, told.more ? make("li", "", "and " + told.more + " more") : null);
 }
 
 /** An edit that others need: who is in the way stands below it, and its button looks at a cascade. */

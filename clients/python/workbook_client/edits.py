@@ -3,6 +3,7 @@
 from typing import TYPE_CHECKING, Any, List, NamedTuple, Optional
 
 from . import requests
+from .errors import InTransaction
 from .exchange import Reading
 from .literals import Index
 from .refusals import Refusal
@@ -24,32 +25,49 @@ class Cascade(NamedTuple):
 class Edit:
     """An accepted change. Its number never changes, whether it is in force or not."""
 
-    __slots__ = ("_book", "what", "who", "by", "turned_by", "_number", "_cells", "_reading", "was_in_force")
+    __slots__ = ("_book", "what", "note", "parts", "who", "by", "turned_by", "_number", "_cells", "_reading", "_unsent", "was_in_force")
 
     def __init__(self, book: "Workbook", what: str, who: str, number: int = -1, cells: int = -1):
         self._book, self.what, self.who = book, what, who
+        self.note: Optional[str] = None
+        """Its note, where it has one, as far as this client heard."""
+        self.parts: List[str] = []
+        """What each of its edits does, where it is a transaction and that was heard."""
         self.by = ""
         """The name of another who made it, as far as that was heard."""
         self.turned_by = ""
         """The name of another who last took it back or put it back, as far as that was heard."""
         self._number, self._cells = number, cells
         self._reading: Optional[Reading] = None  # while it is on its way, or where it was refused
+        self._unsent = ""  # why it has no number, where it isn't sent
         self.was_in_force = True
         """Whether it was in force when this client last heard of it."""
 
+    def tell(self, request: Request) -> None:
+        """Notes what the edit of a request does, unless that is known."""
+        if not self.what:
+            self.what, self.parts, self.note = requests.in_words(request), requests.parts_in_words(request), request.get("note")
+
     @property
     def number(self) -> int:
-        """Its number. In a pipeline this waits, and raises where the change was refused."""
-        if self._number < 0 and self._reading is not None:
-            self._reading.wait()
+        """Its number. In a pipeline this waits, and raises where the change was refused. In a transaction it has none yet."""
+        if self._number < 0:
+            self._wait()
         return self._number
 
     @property
     def cells(self) -> int:
         """How many cells it set, -1 where this client never heard."""
-        if self._cells < 0 and self._reading is not None:
-            self._reading.wait()
+        if self._cells < 0:
+            self._wait()
         return self._cells
+
+    def _wait(self) -> None:
+        """Waits for its reply, where it is on its way."""
+        if self._reading is not None:
+            self._reading.wait()
+        elif self._unsent:
+            raise InTransaction(self._unsent)
 
     @property
     def in_force(self) -> bool:
@@ -73,6 +91,8 @@ class Edit:
         return self._book.dependents(self.number)
 
     def __repr__(self) -> str:
+        if self._unsent:
+            return "<edit that isn't sent>"
         if self._number < 0:
             refused = self._reading is not None and self._reading.reply is not None
             return f"<edit {'refused' if refused else 'on its way'}: {self.what}>"
@@ -94,6 +114,7 @@ class Pipeline:
 
     def ask(self, request: Request) -> Reading:
         """Sends any question, as `workbook_client.requests` makes them."""
+        self._book.may_ask(request)
         return self._book.exchange.post(request)
 
     def get(self, array: Any, index: Index) -> Reading:

@@ -43,6 +43,10 @@ class NoAnswer(WorkbookError):
     """No reply within the time. The session goes on: a late reply is still read, in its turn."""
 
 
+class InTransaction(WorkbookError):
+    """What was asked for needs the workbook as the edits of a transaction leave it, and these aren't made before the block ends."""
+
+
 def sentence(fault: Exception) -> str:
     """What an exception says to people: of a file its name and what the system says, without the system's numbers."""
     if isinstance(fault, OSError) and fault.strerror:

@@ -2,7 +2,9 @@
 
 import os
 import shutil
-from typing import TextIO, Union
+from typing import Optional, TextIO, Union
+
+from .literals import as_note
 
 Source = Union[str, "os.PathLike[str]", TextIO]
 """A file, by its path or as it is open."""
@@ -19,6 +21,12 @@ def place_of(path: str) -> str:
 def text_of(source: Source) -> str:
     """All of a file."""
     return read(os.fspath(source)) if isinstance(source, (str, os.PathLike)) else source.read()
+
+
+def note_of(source: Source) -> Optional[str]:
+    """The note of an edit that takes a file in, "import plan.csv"; none where it has no name."""
+    place = source if isinstance(source, (str, os.PathLike)) else getattr(source, "name", None)
+    return as_note(f"import {os.path.basename(place)}") if isinstance(place, (str, os.PathLike)) else None
 
 
 def read(path: str) -> str:

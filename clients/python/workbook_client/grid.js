@@ -238,7 +238,7 @@ async function fill(typed) {
   if (wrong) return tell(false, wrong);
   const keys = many.map(cell => cell.dataset.key);
   if (spelled(on)) return setMany(keys, {line: spelled(on) + " = " + typed}, spelled(on) + " = " + typed);
-  return setMany(keys, {op: "paste", a: on.name, cells: many.map(cell => [placeOf(cell).at, typed])}, where(on) + " = " + typed);
+  return setMany(keys, {op: "paste", fills: true, a: on.name, cells: many.map(cell => [placeOf(cell).at, typed])}, where(on) + " = " + typed);
 }
 
 /** Asks for something that sets the cells of these keys, which aren't marked by that. */
@@ -258,8 +258,7 @@ function onCopy(e) {
   tell(true, where(area()) + " copied");
 }
 
-/** A table that was copied elsewhere: one edit where ranges say which cells they are, else each of them is set, all or none. Where no
-    cell is chosen it may become a table of its own. */
+/** A table that was copied elsewhere, as one edit. Where no cell is chosen it may become a table of its own. */
 function onPaste(e) {
   if (typing(e.target)) return;
   e.preventDefault();

@@ -61,7 +61,7 @@ def note(book: "Workbook", edits: "Dict[int, tuple[bool, Request]]", who: str) -
     """Notes what a history tells of edits; those that were unheard of are someone's."""
     for number, (in_force, request) in edits.items():
         edit = _known(book, number, in_force, who)
-        edit.what = edit.what or requests.in_words(request)
+        edit.tell(request)
 
 
 def hear_latest(book: "Workbook", edits: int, latest: int) -> None:

@@ -12,8 +12,8 @@ from . import requests
 from .requests import Request
 
 COMMANDS = (
-    "cascade", "colours", "compact", "dependents", "drop", "exit", "export", "hello", "help", "history", "import", "keep", "label", "load", "max", "min",
-    "more", "names", "piece", "quit", "redo", "save", "show", "size", "text", "undo", "where",
+    "abandon", "begin", "cascade", "colours", "commit", "compact", "dependents", "drop", "exit", "export", "hello", "help", "history",
+    "import", "keep", "label", "load", "max", "min", "more", "names", "note", "piece", "quit", "redo", "save", "show", "size", "text", "undo", "where",
     "who",
 )
 WORDS = COMMANDS + ("by", "align", "dmapped", "over", "sparse", "reduce", "int", "text", "irv", "rows", "columns")
@@ -186,6 +186,12 @@ class _Parser:
             return requests.cascade(k) if word == "cascade" else Command(word, (k,))
         if word == "history":
             return self.end(Command(word, () if self.now.kind == "end" else (self.count("the number of an edit, to begin with"),)))
+        if word == "commit":
+            return self.end(Command(word, (self.note(),)))
+        if word == "abandon":
+            return self.end(Command(word, (None if self.now.kind == "end" else self.count("the place of a gathered edit; `begin` lists them"),)))
+        if word == "note":
+            return self.end(Command(word, (self.count("the number of the edit; `history` lists them"),)))
         if word == "show":
             return self.show()
         if word == "label":
@@ -225,6 +231,14 @@ class _Parser:
             self.wrong("expected 10, 100, 1000 or so: that many digits stand behind a point")
         self.take()
         return self.end(Command("show", (name, part, len(by.text) - 1)))
+
+    def note(self) -> Optional[str]:
+        """`"March forecast"`, or nothing."""
+        if self.now.kind == "end":
+            return None
+        if self.now.kind != "text":
+            self.wrong('expected a note in ", as in commit "March forecast", or the line\'s end')
+        return self.take().text[1:-1]
 
     def label(self) -> Command:
         """`label A rows B`, `label A columns B`; without B the indices again."""

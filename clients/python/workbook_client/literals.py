@@ -21,6 +21,9 @@ Indices = AbstractSet[Any]
 
 LEAST, GREATEST = -(2**63), 2**63 - 1
 
+LONGEST_NOTE = 256
+"""So many bytes a note has at most."""
+
 
 def integer(value: Any, what: str = "a value") -> int:
     """The value as an int of 64 bits. Anything that isn't a whole number is refused here."""
@@ -78,6 +81,21 @@ def label(text: str) -> str:
     if length > 64 or re.search('["\\\\\x00-\x1f\x7f]', text):
         raise ValueError(f'a text has 64 bytes at most and no ", \\ or control character: {text!r}')
     return text
+
+
+def note(text: Any) -> str:
+    """A text that may be the note of a transaction."""
+    if not isinstance(text, str):
+        raise TypeError(f"a note is a text, not {text!r:.60}")
+    if text != as_note(text):
+        raise ValueError(f'a note has {LONGEST_NOTE} bytes at most and no ", \\ or control character: {text!r:.300}')
+    return text
+
+
+def as_note(text: str) -> str:
+    """The note that comes nearest to a text: what none has stands as ?, and it ends after 256 bytes."""
+    plain = re.sub('["\\\\\x00-\x1f\x7f\ud800-\udfff]', "?", text)
+    return plain.encode()[:LONGEST_NOTE].decode(errors="ignore")
 
 
 def index_back(value: Union[int, List[int], str]) -> Index:

@@ -3,11 +3,11 @@
 import {$, ask, button, harmless, make, state, tell} from "./talk.js";
 
 const root = $("newtable");
-let text = ""; // the table's text, as a spreadsheet copies or writes it
+let text = "", file = ""; // the table's text, as a spreadsheet copies or writes it, and the name of its file
 
 /** A box with the table's name, which makes it. */
-function offer(told, from) {
-  text = told;
+function offer(told, from, called = "") {
+  [text, file] = [told, called];
   const rows = told.replace(/\r\n?/g, "\n").replace(/\n+$/, "").split("\n").length;
   const name = make("input");
   name.setAttribute("aria-label", "the name of the table");
@@ -30,7 +30,7 @@ function leave() {
 
 /** Makes the table, or fills one that is there; what is no table is told, and then the box stays. */
 async function makeTable(name) {
-  const told = await ask({op: "table", a: name, text}, "a table called " + name);
+  const told = await ask({op: "table", a: name, text, file}, "a table called " + name);
   if (told.ok) leave();
 }
 
@@ -48,7 +48,7 @@ export function offerPasted(told) {
 /** Offers what a file has; spreadsheets write CSV and TSV. */
 async function offerFile(file) {
   if (file.size > 1 << 20) return tell(false, file.name + " is larger than a megabyte: `import NAME FILE` in a session takes it");
-  offer(await file.text(), "of " + file.name);
+  offer(await file.text(), "of " + file.name, file.name);
   const called = file.name.replace(/\.[^.]*$/, "").replace(/[^A-Za-z0-9_]/g, "").slice(0, 20);
   if (/^[A-Za-z]/.test(called)) root.querySelector("input").value = called;
   root.querySelector("input").select();

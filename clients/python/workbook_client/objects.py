@@ -1,7 +1,7 @@
 """Domains and arrays: names in a workbook, with what can be asked of them and done to them."""
 
 import os
-from typing import TYPE_CHECKING, Any, Dict, Iterator, List, Mapping, Optional, Tuple, Union
+from typing import TYPE_CHECKING, Any, Callable, Dict, Iterator, List, Mapping, Optional, Tuple, Union
 
 from . import bulk, files, notebook, requests, sheets
 from .literals import Index, Indices, Ranges, index_back, ranges_of
@@ -173,36 +173,36 @@ class Array(_Named):
         """A new element. `A[4] = 9` does the same."""
         return self.book.change(requests.set(self, index, value))
 
-    def update(self, values: Mapping[Any, int]) -> "List[Edit]":
-        """Many elements at once, `A.update({1: 5, 2: 6})`: an edit for each, all or none."""
-        with self.book.trying(), self.book.pipeline():
-            return [self.set(index, value) for index, value in values.items()]
+    def update(self, values: Mapping[Any, int], parts: bool = False) -> "List[Edit]":
+        """Many elements at once, `A.update({1: 5, 2: 6})`, as one edit, which stands in the list. Some 1,900 fit into one; more are
+        `TransactionTooLong`, or with `parts` as few edits as it takes, all or none."""
+        return self.book.as_one([requests.set(self, index, value) for index, value in values.items()], parts=parts)
 
-    def put(self, values: Any, on: Optional[Ranges] = None) -> "List[Edit]":
-        """Every element, in the domain's order, all or none: from a list, from lists of lists of
+    def put(self, values: Any, on: Optional[Ranges] = None, parts: bool = False) -> "List[Edit]":
+        """Every element, in the domain's order: from a list, from lists of lists of
         the domain's shape, or from an array of numpy's or a table of pandas' of that shape. Over a sparse or an
         associative domain it is one list. With `on` the elements of a rectangle, in its order.
 
-        Over a rectangle that is one edit, or more where a line would be too long, and else an edit for each element; where all
-        are one number, it is always one. Without `on` the domain is read first, from the workbook's text.
+        That is one edit, which stands in the list: a `put` over a rectangle, and else a transaction of an edit for each element. Where
+        a line doesn't hold it, over some 10,000 numbers or 1,900 elements, it is `TransactionTooLong`, and nothing is sent; with `parts` it is
+        as few edits as it takes, all or none. Without `on` the domain is read first, from the workbook's text.
         """
         if on is None:
-            shot = self._shot()
+            shot = self._shot(self.book.shapes)
             made = bulk.changes(self.name, shot.domains[shot.arrays[self.name].over], values)
         else:
             made = bulk.part(self.name, ranges_of(on), values)
-        with self.book.trying(), self.book.pipeline():
-            return [self.book.change(request) for request in made]
+        return self.book.as_one(made, parts=parts)
 
-    def from_csv(self, source: files.Source) -> "List[Edit]":
+    def from_csv(self, source: files.Source, note: Optional[str] = None) -> "List[Edit]":
         """The elements of a file of a spreadsheet, all or none: a table for an array of rank 2, with headings or without; else
-        a line for each element, its index and then the element. There are as many edits as `put` has. The file
+        a line for each element, its index and then the element. It is one edit, with the note "import plan.csv" or another, or as few as
+        it takes where a line would be too long. The file
         is text in UTF-8; whole numbers only. ValueError tells the row and the column of what is none."""
-        text, shot = files.text_of(source), self._shot()
+        text, shot = files.text_of(source), self._shot(self.book.shapes)
         values = sheets.values_of(text, shot, self.name)
         made = bulk.at_indices(self.name, shot.domains[shot.arrays[self.name].over], values)
-        with self.book.trying(), self.book.pipeline():
-            return [self.book.change(request) for request in made]
+        return self.book.as_one(made, files.note_of(source) if note is None else note, parts=True)
 
     def label(self, way: str, source: "Union[str, Array, None]" = None) -> None:
         """Titles for this array's "rows" or "columns", wherever this `Workbook` shows it: those of an array over texts, where
@@ -297,10 +297,10 @@ class Array(_Named):
         """The sum (`+`), the least (`min`) or the greatest (`max`) of all elements."""
         return self.book.ask(requests.reduce(self, how)).number("value")
 
-    def _shot(self) -> Snapshot:
-        shot = self.book.snapshot()
+    def _shot(self, taken: "Optional[Callable[[], Snapshot]]" = None) -> Snapshot:
+        shot = (taken or self.book.snapshot)()
         if self.name not in shot.arrays:
-            self.book.ask(requests.piece(self, 0))  # refused: it isn't there, or is a domain
+            self.book.exchange.ask(requests.piece(self, 0))  # refused: it isn't there, or is a domain
         return shot
 
     def piece(self, locale: int) -> Dict[Index, int]:

@@ -46,6 +46,7 @@ const KEYS = `  arrow keys, Tab         move; with Ctrl to the edge, with Shift 
   a digit, Enter, F2      type; Enter sets it and goes down, Tab goes on, Escape leaves it; A[1] + 3 makes a copy
   Ctrl-Enter, Delete      fill what is chosen with what was typed, or with 0
   Ctrl-C, Ctrl-V          copy and paste text with tabs, as spreadsheets do; where no cell is chosen, a new table
+  why, below on the right a note that is kept with the next edit
   Ctrl-Z, Ctrl-Y          take back the latest edit of yours, and put it back
   Escape                  takes the marks off what changed`;
 $("keys").onclick = () => tell(true, KEYS);

@@ -48,7 +48,7 @@ def parts() -> Dict[str, Tuple[bytes, str]]:
 
 
 class Handler(BaseHTTPRequestHandler):
-    """The addresses behind the key: the page and its files, state, needs, text, history, csv, and do for what the page does."""
+    """The addresses behind the key: the page and its files, state, needs, parts, text, history, csv, and do for what the page does."""
 
     view: View
     parts: Dict[str, Tuple[bytes, str]]
@@ -57,7 +57,8 @@ class Handler(BaseHTTPRequestHandler):
     timeout = 60  # a connection that says nothing for so long is closed
 
     def do_GET(self) -> None:
-        """A file of the page, its state, who needs an edit, or a text of the workbook, of its history or of an array."""
+        """A file of the page, its state, who needs an edit, what a transaction did, or a text of the workbook, of its history or of an
+        array."""
         place, query = self.place()
         if place is None:
             return
@@ -67,7 +68,9 @@ class Handler(BaseHTTPRequestHandler):
         elif place == "state":
             self.guarded(lambda: self.state(asked.get("seen", ""), asked.get("sight", "")), asked.get("seen", ""))
         elif place == "needs":
-            self.guarded(lambda: self.needs(asked.get("k", "")))
+            self.guarded(lambda: self.of_edit(self.view.needs, asked.get("k", "")))
+        elif place == "parts":
+            self.guarded(lambda: self.of_edit(self.view.parts, asked.get("k", "")))
         elif place in ("text", "history"):
             self.guarded(lambda: self.text(self.view.text if place == "text" else self.view.history))
         elif place == "csv":
@@ -111,10 +114,10 @@ class Handler(BaseHTTPRequestHandler):
         else:
             self.tell(200, state)
 
-    def needs(self, k: str) -> None:
-        """Who would go in a cascade of an edit."""
+    def of_edit(self, told: Callable[[int], Dict[str, Any]], k: str) -> None:
+        """What is told of an edit."""
         if re.fullmatch("[0-9]{1,20}", k):
-            self.tell(200, self.view.needs(int(k)))
+            self.tell(200, told(int(k)))
         else:
             self.tell(400, {"say": "that is no edit's number"})
 

@@ -42,15 +42,35 @@ class Refusal(WorkbookError):
 
     def __init__(self, request: Dict[str, Any], reply: Optional[Dict[str, Any]] = None, hint: str = ""):
         self.request = request
+        """What was refused: of a transaction the edit in it for which it was, where that is told."""
         self.reply = reply or {}
         self.hint = hint
+        self.transaction: Optional[Dict[str, Any]] = None
+        """The transaction in which the refused edit stands, as the request that was sent; nothing of it was made."""
+        self.at: Optional[int] = None
+        """The place of that edit in the transaction, from 0."""
+        at, edits = self.reply.get("at"), request.get("edits", [])
+        if type(at) is int and 0 <= at < len(edits):
+            self.at, self.transaction, self.request = at, request, edits[at]
         super().__init__(self.sentence())
 
     def sentence(self) -> str:
         """What was refused and why, and what to do next."""
         advice = _CLOSER.get((self.code, self.request.get("op", "")), self.advice)
-        words = f"{requests.in_words(self.request)}: {advice} ({self.code}, {self.name})"
+        words = f"{self.placed()}{requests.in_words(self.request)}: {advice} ({self.code}, {self.name})"
+        if self.is_one_of_several():
+            words += " Nothing of the transaction was made."
         return f"{words} {self.hint}" if self.hint else words
+
+    def is_one_of_several(self) -> bool:
+        """Whether the refused edit stands with others in a transaction."""
+        return self.transaction is not None and len(self.transaction["edits"]) > 1
+
+    def placed(self) -> str:
+        """`edit 2 of 3, ` before what is told of an edit in a transaction."""
+        if self.at is None or self.transaction is None or not self.is_one_of_several():
+            return ""
+        return f"edit {self.at + 1:,} of {len(self.transaction['edits']):,}, "
 
 
 class BadRequest(Refusal):
@@ -156,7 +176,7 @@ class RefusedInPlace(Refusal):
         why = self.because
         return (
             f"{requests.in_words(self.request)}: in its old place the edit would be refused now, "
-            f"since {why.advice} ({self.code}, {self.name}: {why.code}, {why.name})"
+            f"since {why.advice} ({self.code}, {self.name}: {why.code}, {why.name}){self.hint}"
         )
 
 

@@ -9,6 +9,8 @@ from typing import Dict, List, Mapping, Optional, TextIO, Tuple
 
 from . import files, hearing, hints, journal, labels, sheets, titles
 from . import literals as lit
+from . import requests
+from .begun import Begun
 from .book import Workbook
 from .channel import ProgramChannel
 from .edits import Cascade, Edit
@@ -17,7 +19,7 @@ from .language import Command, LanguageError, parse
 from .literals import Index
 from .objects import Array
 from .refusals import Blocked, NotInForce, Refusal
-from .requests import Request
+from .requests import QUESTIONS, Request
 from .tables import NEXT, Cell, elements_table, grid, harmless, object_table
 
 HELP = """\
@@ -51,6 +53,9 @@ Looking        A     A[4]     A[1..20]       a table, an element, a part of the 
 Edits          history    history 18         every edit, or from 18 on: who, what, whether in force
                undo    undo 3    redo 3      one edit alone, the latest if none is named
                dependents 3    cascade 3     who needs edit 3; takes it back with those
+               begin    commit "why"         edits between are gathered, and made as one
+               abandon    abandon 2          drops them, or the second of them
+               note 7                        why edit 7 was made, and what it did
 At a desk      who    hello Ben              who is there, and what others are told of who you are
 Files          save FILE    load FILE        the text of the workbook
                keep FILE                     the whole history, for --resume FILE
@@ -64,6 +69,9 @@ FEW = 500
 
 SHOWN = 40
 """So many edits are listed at once."""
+
+SHOWS = ("show", "more", "names", "text", "save", "keep", "export")
+"""Commands that show or write the workbook as it is, without what is gathered."""
 
 
 class Session:
@@ -85,6 +93,8 @@ class Session:
         """Whether the last line was refused, or wasn't of the language."""
         self.refusal: Optional[Refusal] = None
         """What the program refused it with."""
+        self.begun: Optional[Begun] = None
+        """The transaction that was begun, and neither committed nor abandoned."""
         self._next: Optional[Tuple[str, Optional[str], Optional[int], int]] = None
         """The page of a table that `more` shows."""
         self._kept = self._now()
@@ -97,6 +107,14 @@ class Session:
         """How many edits go with the session: none where they are kept, or others have them."""
         kept = self.book.journal is not None or not self.book.alone or self._now() == self._kept
         return 0 if kept else len(self.book.edits)
+
+    def gathered(self) -> int:
+        """How many edits were gathered since a transaction was begun."""
+        return len(self.begun.edits) if self.begun is not None else 0
+
+    def kind(self, name: str) -> Optional[str]:
+        """ "domain", "array" or None, as a name stands once what is gathered is made."""
+        return self.book.kind(name) if self.begun is None else self.begun.kind(name, self.book.kind)
 
     def place(self) -> str:
         """Where the workbook lies, and whether it is kept."""
@@ -124,11 +142,14 @@ class Session:
         """Runs a line. False where it asks for the end. `prompt` stood before it on the terminal."""
         self.failed, self.refusal = False, None
         try:
-            what = parse(text, self.book.kind)
+            what = parse(text, self.kind)
             if isinstance(what, Command):
-                return self.command(what)
+                goes_on = self.command(what)
+                self.without(what.word in SHOWS)
+                return goes_on
             if what is not None:
                 self.request(what)
+                self.without(what["op"] in QUESTIONS)
         except LanguageError as wrong:
             self.failed = True
             self.point(text, wrong, prompt)
@@ -157,7 +178,10 @@ class Session:
 
     def request(self, request: Request) -> None:
         op = request["op"]
-        if op == "undo":
+        if self.begun is not None and op not in QUESTIONS:
+            self.begun.take(request)
+            self.say(f"  gathered, {_edits(self.gathered())} so far")
+        elif op == "undo":
             self.moved("taken back", self.book.undo(request.get("k")))
         elif op == "redo":
             self.moved("in force again", self.book.redo(request["k"]))
@@ -176,9 +200,18 @@ class Session:
             self.say(f"  {value}")
         else:
             last = max(self.book.edits, default=0)
-            edit = self.book.change(request)
+            edit = self.change(request)
             self.say(f"  edit {edit.number}, {_cells(edit.cells)}")
             self.between(last, edit.number)
+
+    def change(self, request: Request) -> Edit:
+        """Sends a change."""
+        return self.book.change(request)
+
+    def without(self, shown: bool) -> None:
+        """Tells of what was shown that what is gathered isn't in it."""
+        if shown and self.gathered():
+            self.wrapped(f"without the {_edits(self.gathered())} that {'is' if self.gathered() == 1 else 'are'} gathered")
 
     def between(self, last: int, number: int) -> None:
         """Tells of the edits of others between two of which this session heard: their numbers say it."""
@@ -192,7 +225,7 @@ class Session:
         self.hear_of([edit.number])
         whose = "" if edit.who != "another" else f" of {edit.by}" if edit.by else " of another seat"
         what = f": {edit.what}" if edit.what else ""
-        self.say(f"  edit {edit.number}{whose} is {how}, {_cells(edit.cells)}{what}")
+        self.wrapped(f"edit {edit.number}{whose} is {how}, {_cells(edit.cells)}{what}")
 
     def cascaded(self, done: Cascade) -> None:
         many = "edits" if len(done.undone) > 1 else "edit"
@@ -209,6 +242,8 @@ class Session:
             return True
         if command.word == "quit":
             return False
+        if self.begun is not None and command.word in ("load", "import"):
+            raise ValueError(f"{command.word} is no part of a transaction: commit it first, or abandon it")
         getattr(self, "do_" + command.word)(*command.args)
         return True
 
@@ -242,15 +277,68 @@ class Session:
         self.book.labels[name, way] = source
         self.wrapped(f"{way} of {name} have titles from {source}: {len(found)} of them, {self.here}")
 
-    def do_import(self, name: str, path: str) -> None:
-        self.took(name, files.read(path))
+    def do_begin(self) -> None:
+        if self.begun is None:
+            self.begun = Begun()
+            self.wrapped('begun: what you change now is gathered, and made as one edit by commit, or commit "why"; abandon drops it')
+            return
+        self.say(f"  begun already, with {_edits(self.gathered())}")
+        for place, request in enumerate(self.begun.edits, start=1):
+            self.say(f"  {place}: {requests.in_words(request)}")
 
-    def took(self, name: str, text: str, of: str = "file") -> None:
+    def do_commit(self, note: Optional[str]) -> None:
+        """Makes what is gathered as one edit. It stays gathered where it is refused, or where it wasn't sent."""
+        begun = self.had_begun()
+        if not begun.edits:
+            self.begun = None
+            self.say("  nothing was gathered, so nothing changed")
+            return
+        last, sent = max(self.book.edits, default=0), self.book.exchange.posted
+        self.begun = None
+        try:
+            edit = self.book.transact(begun.edits, note)
+        except BaseException as no:
+            if isinstance(no, Refusal) or self.book.exchange.posted == sent:
+                self.begun = begun
+            raise
+        self.say(f"  edit {edit.number}, {_cells(edit.cells)}" + (f": {note}" if note else ""))
+        self.between(last, edit.number)
+
+    def do_abandon(self, place: Optional[int]) -> None:
+        begun = self.had_begun()
+        if place is not None:
+            left_out = begun.leave_out(place)
+            self.say(f"  left out: {requests.in_words(left_out)}; {_edits(self.gathered())} gathered")
+            return
+        self.begun = None
+        self.say(f"  {_edits(len(begun.edits))} dropped, and nothing changed")
+
+    def had_begun(self) -> Begun:
+        """The transaction that was begun; ValueError where none was."""
+        if self.begun is None:
+            raise ValueError("no transaction was begun: `begin` begins one")
+        return self.begun
+
+    def do_note(self, k: int) -> None:
+        """The note of an edit, and of a transaction what it did."""
+        note = self.book.note(k)
+        self.hear_of([k])
+        self.wrapped(f"edit {k}: {note}" if note is not None else f"edit {k} has no note")
+        parts = self.book.edits[k].parts if k in self.book.edits else []
+        for place, part in enumerate(parts[:SHOWN], start=1):
+            self.say(f"  {place}: {part}")
+        if len(parts) > SHOWN:
+            self.wrapped(f"and {len(parts) - SHOWN:,} more")
+
+    def do_import(self, name: str, path: str) -> None:
+        self.took(name, files.read(path), note=files.note_of(path))
+
+    def took(self, name: str, text: str, of: str = "file", note: Optional[str] = None) -> None:
         """Takes in the text of a spreadsheet's file, or of a table: as a new array, or into one that is there."""
         if self.book.kind(name) is not None:
-            self.imported(f"{name} has", of, Array(self.book, name).from_csv(io.StringIO(text)))
+            self.imported(f"{name} has", of, Array(self.book, name).from_csv(io.StringIO(text), note))
             return
-        made = labels.new_table(self.book, name, sheets.guessed(sheets.cells_of(text)))
+        made = labels.new_table(self.book, name, sheets.guessed(sheets.cells_of(text)), note)
         self.imported(f"{name} is new, and has", of, made.edits)
         for way, source in made.titles.items():
             self.wrapped(f"its {way} have titles from {source}")
@@ -401,6 +489,8 @@ class Session:
             return
         self.wrapped(str(no))
         self.explained(no)
+        if no.at is not None and self.begun is not None:
+            self.wrapped(f"what is gathered stays gathered: `abandon {no.at + 1}` leaves that edit out, `abandon` drops all")
         hint = hints.on(no, self.book.snapshot())
         if hint:
             self.wrapped(hint)

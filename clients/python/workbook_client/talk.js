@@ -96,9 +96,11 @@ function gone(told, status) {
 
 let last = Promise.resolve();
 
-/** Does something, after all that was asked before. `words` are what it is told by, where no answer comes. */
+/** Does something, after all that was asked before. `words` are what it is told by, where no answer comes. What was typed as its note
+    goes with it, where it is an edit. */
 export function ask(what, words) {
-  last = last.then(() => send(what, words));
+  const note = $("note").value.trim(), all = note ? {...what, note} : what;
+  last = last.then(() => send(all, words));
   return last;
 }
 
@@ -106,6 +108,7 @@ async function send(what, words) {
   const told = away ? {ok: false, sent: false, say: ""} : await answerTo(what, words);
   if (told.sent === false) told.say = "Not sent, since the workbook isn't there now: " + words;
   tell(Boolean(told.ok), told.say || "");
+  if (told.noted && $("note").value.trim() === what.note) $("note").value = "";
   if (told.unanswered) { looks++; latest = null; gone(told, 0); }
   else if (!away) await poll();
   if (told.by) listeners.light(told.by);
@@ -127,9 +130,14 @@ async function answerTo(what, words) {
 }
 
 /** Who would go in a cascade of edit k, as the workbook says now. */
-export async function needs(k) {
+export const needs = k => of(k, "needs");
+
+/** What each edit of transaction k does. */
+export const parts = k => of(k, "parts");
+
+async function of(k, place) {
   try {
-    return await (await fetch("needs?k=" + k)).json();
+    return await (await fetch(place + "?k=" + k)).json();
   } catch {
     return {ok: false, say: GONE.say};
   }

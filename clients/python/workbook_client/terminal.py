@@ -16,8 +16,9 @@ from .refusals import Refusal
 from .session import Session
 
 PROMPT = "workbook> "
+"""What stands before a line, where no transaction was begun."""
 WELCOME = "help lists what you can write; quit, or Ctrl-D, ends."
-WITHOUT = ("", "quit", "exit", "help")
+WITHOUT = ("", "quit", "exit", "help", "begin", "abandon")
 """Lines that ask a workbook nothing."""
 
 
@@ -64,7 +65,7 @@ def converse(session: Session) -> int:
     try:
         while True:
             try:
-                text = input(PROMPT)
+                text = input(prompt(session))
             except KeyboardInterrupt:
                 session.say("")
                 continue
@@ -85,6 +86,11 @@ def converse(session: Session) -> int:
                 pass
 
 
+def prompt(session: Session) -> str:
+    """What stands before a line: how many edits are gathered, where a transaction was begun."""
+    return PROMPT if session.begun is None else f"workbook ({session.gathered():,} begun)> "
+
+
 def answered(session: Session, text: str) -> bool:
     """Runs a line that was typed. False where it asks for the end. A shared workbook that is away is waited for: a line that wasn't
     sent is run then, unless something was done meanwhile."""
@@ -92,7 +98,7 @@ def answered(session: Session, text: str) -> bool:
         session.wrapped("the line wasn't run, since that was before it: type it again, if it is still meant")
         return True
     try:
-        return session.line(text, PROMPT)
+        return session.line(text, prompt(session))
     except SessionEnded as end:
         away.come_back(session, end)
     except KeyboardInterrupt:
@@ -110,12 +116,14 @@ def is_still_meant(session: Session) -> bool:
 
 
 def may_leave(session: Session) -> bool:
-    """Asks before a session is left whose edits are kept nowhere. A second Ctrl-D leaves it."""
-    unkept = session.unkept()
-    if not unkept:
+    """Asks before a session is left whose edits are kept nowhere, or gathered and not committed. A second Ctrl-D leaves it."""
+    unkept, gathered = session.unkept(), session.gathered()
+    if not unkept and not gathered:
         return True
-    what = "1 edit is" if unkept == 1 else f"{unkept:,} edits are"
-    session.wrapped(f"{what} kept nowhere, and would be gone; keep FILE writes the history to a file")
+    if gathered:
+        session.wrapped(f"{_edits_are(gathered)} gathered and not made, and would be gone; commit makes {'it' if gathered == 1 else 'them'}")
+    if unkept:
+        session.wrapped(f"{_edits_are(unkept)} kept nowhere, and would be gone; keep FILE writes the history to a file")
     try:
         return input("  leave all the same? [y/N] ").strip().lower() in ("y", "yes")
     except EOFError:
@@ -124,6 +132,10 @@ def may_leave(session: Session) -> bool:
     except KeyboardInterrupt:
         session.say("")
         return False
+
+
+def _edits_are(number: int) -> str:
+    return "1 edit is" if number == 1 else f"{number:,} edits are"
 
 
 def script(session: Session, lines: TextIO, keep_going: bool) -> int:
@@ -144,6 +156,9 @@ def script(session: Session, lines: TextIO, keep_going: bool) -> int:
             status = 1
             if not keep_going:
                 break
+    if session.gathered():
+        session.wrapped(f"{_edits_are(session.gathered())} gathered and not made, since no commit came")
+        status = 1
     return status
 
 

@@ -15,7 +15,7 @@ from .edits import Cascade, Edit
 from .errors import NotTakenBack, SessionEnded, WorkbookError
 from .hearing import News
 from .language import LanguageError, parse
-from .literals import GREATEST, LEAST, Index, index_text, name as named, spelled_ranges
+from .literals import GREATEST, LEAST, Index, as_note, index_text, name as named, spelled_ranges
 from .names import takers
 from .objects import Array
 from .reach import Reach, in_words
@@ -32,10 +32,15 @@ LATEST = 300
 whole history isn't asked for."""
 ASKED = 60
 """Of so many edits in sight it is asked at once who needs them, the latest first."""
+PARTS = 300
+"""So many edits of a transaction are listed."""
 APART = 1.5
 """So many seconds lie between two looks at a shared workbook, however many pages are open."""
 TERMINAL_ALONE = {
     **dict.fromkeys(("save", "load", "keep", "import", "export", "compact"), "Files are for the terminal; the links above give the texts."),
+    **dict.fromkeys(
+        ("begin", "commit", "abandon"), "That is for the terminal. Here a paste is one edit, and what is typed as `why` goes with the next one.",
+    ),
     "colours": "Colours by locale are the box above.",
     "more": "Tables are shown above.",
     "quit": "The page is closed in the browser; its server ends by Ctrl-C in the terminal.",
@@ -58,13 +63,16 @@ class Sight(NamedTuple):
 
 class Doing(Session):
     """A session for one thing that the page does, which notes what was taken back and put back by it. `decimals` has how many digits
-    stand behind a point in the tables of the page."""
+    stand behind a point in the tables of the page, `note` is what a change is to be noted as."""
 
     here = "on this page"
 
-    def __init__(self, book: Workbook, out: io.StringIO, decimals: Dict[str, int]):
+    def __init__(self, book: Workbook, out: io.StringIO, decimals: Dict[str, int], note: str = ""):
         super().__init__(book, out, width=100, barred=TERMINAL_ALONE)
         self.decimals = decimals
+        self._note = note
+        self.noted = False
+        """Whether the note went with a change."""
         self.undone: List[int] = []
         self.redone: List[int] = []
         self.cascade: List[int] = []
@@ -82,6 +90,15 @@ class Doing(Session):
                          f"these are typed; `show {name} / 1` shows them again.")
         else:
             self.wrapped(f"{name} is shown in whole numbers above")
+
+    def change(self, request: requests.Request) -> Edit:
+        note = self.note()
+        return super().change(request) if note is None else self.book.transact([request], note)
+
+    def note(self, otherwise: Optional[str] = None) -> Optional[str]:
+        """What a change is noted as, where something was typed; else as this."""
+        self.noted = self.noted or bool(self._note)
+        return self._note or otherwise
 
     def moved(self, how: str, edit: Edit) -> None:
         (self.undone if how == "taken back" else self.redone).append(edit.number)
@@ -205,6 +222,13 @@ class View:
                 return {"ok": False, "say": str(no)}
             return {"ok": True, "k": k, "needs": self._needs[k]}
 
+    def parts(self, k: int) -> Json:
+        """What each edit of a transaction does, as far as that was heard, and how many more there are."""
+        with self._lock:
+            edit = self.book.edits.get(k)
+            parts = edit.parts if edit is not None else []
+            return {"ok": True, "k": k, "parts": [harmless(part) for part in parts[:PARTS]], "more": max(len(parts) - PARTS, 0)}
+
     def _ask_in_sight(self, edits: List[Edit], sight: Optional[Sight]) -> None:
         """Who needs the edits in sight of which it isn't known."""
         if sight is None:
@@ -323,7 +347,8 @@ class View:
 
     def _edit(self, edit: Edit) -> Json:
         return {
-            "k": edit.number, "what": harmless(edit.what), "who": edit.who, "by": harmless(edit.by), "cells": edit.cells,
+            "k": edit.number, "what": harmless(requests.together(edit.parts) if edit.parts else edit.what), "note": harmless(edit.note or ""),
+            "parts": len(edit.parts), "who": edit.who, "by": harmless(edit.by), "cells": edit.cells,
             "on": edit.was_in_force, "needs": self._needs.get(edit.number) if edit.was_in_force else None,
         }
 
@@ -334,12 +359,13 @@ class View:
         line, act = str(asked.get("line", "")), ACTS.get(str(asked.get("op")))
         with self._there():
             self._looked = float("-inf")
-            return self._done((lambda session: session.line(line)) if act is None else (lambda session: act(self, session, asked)))
+            note = str(asked.get("note") or "")
+            return self._done((lambda session: session.line(line)) if act is None else (lambda session: act(self, session, asked)), note)
 
-    def _done(self, act: Callable[[Doing], object]) -> Json:
+    def _done(self, act: Callable[[Doing], object], note: str) -> Json:
         """What came of it, in the words of the session."""
         said, before, looks = io.StringIO(), self._mine(), self._looks()
-        session = Doing(self.book, said, self._decimals)
+        session = Doing(self.book, said, self._decimals, note)
         try:
             act(session)
         except Refusal as no:
@@ -357,7 +383,7 @@ class View:
         if self._looks() != looks:
             self._objects = None
             self._version += 1
-        told: Json = {"ok": not session.failed, "say": said.getvalue().rstrip()}
+        told: Json = {"ok": not session.failed, "say": said.getvalue().rstrip(), "noted": session.noted and not session.failed}
         refused = session.refusal
         if refused is not None:
             by, k = refused.reply.get("by"), refused.request.get("k")
@@ -413,13 +439,12 @@ class View:
         self._version += 1
 
     def _paste(self, session: Doing, asked: Json) -> None:
-        """Gives many elements of an array their numbers, all or none as in a block of `trying`: by one edit where ranges say which
-        they are, or more where a line would be too long; else each by an edit."""
+        """Gives many elements of an array their numbers, as one edit, or where a line would be too long as few as it takes, all or none.
+        Where nothing else was typed, a paste is noted as such."""
         wanted = list(_put(asked)) if "on" in asked else [_set(asked.get("a"), cell) for cell in _listed(asked, "cells")]
         if not wanted:
             raise ValueError("there is nothing to paste")
-        with self.book.trying(), self.book.pipeline():
-            edits = [self.book.change(request) for request in wanted]
+        edits = self.book.as_one(wanted, session.note(None if asked.get("fills") else "paste"), parts=True)
         session.wrapped(f"{_many(sum(edit.cells for edit in edits), 'cell')} of {wanted[0]['a']} set by {_as_one(edits)}")
 
     def _turn(self, asked: Json) -> None:
@@ -437,7 +462,9 @@ class View:
 
     def _table(self, session: Doing, asked: Json) -> None:
         """A new array of a table that was pasted or is a file's; the elements of one that is there become those of the table."""
-        session.took(named(str(asked.get("a", "")).strip()), str(asked.get("text", "")), of="table")
+        file = str(asked.get("file") or "")
+        note = session.note(as_note(f"import {file}") if file else "paste")
+        session.took(named(str(asked.get("a", "")).strip()), str(asked.get("text", "")), of="table", note=note)
 
     def _hold(self, k: int, by: int) -> None:
         """After a refused undo the page shows who is in the way."""

@@ -25,6 +25,21 @@ def compact(request):
     return json.dumps(request, ensure_ascii=False, separators=(",", ":"))
 
 
+def doubled(line):
+    """Whether a key stands twice in an object of a line, of which not all is promised."""
+    found = []
+
+    def members(pairs):
+        found.append(len({key for key, _ in pairs}) < len(pairs))
+        return dict(pairs)
+
+    try:
+        json.loads(line, object_pairs_hook=members)
+    except (ValueError, RecursionError):
+        return False  # it is no JSON
+    return any(found)
+
+
 class Hostile:
     """A source of lines, without their ends."""
 
