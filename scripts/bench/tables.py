@@ -44,6 +44,18 @@ def of_index(of):
     ]
 
 
+def of_transactions(of):
+    names = {"put": ("by `put`", 16), "transaction": ("by transactions of `set`", 60), "set": ("by a `set` line each", None)}
+    rows = []
+    for kind, (name, aim) in names.items():
+        found = of[kind]
+        what = "{:,} numbers {}".format(found["numbers"], name)
+        rows.append((what, "%s µs; %s bytes each" % (short(found["us"]), short(found["kept"])), "" if aim is None else aimed("", found["kept"], aim)))
+    if "numpy" in of:
+        rows.append(("the same in numpy, with a copy", "%s µs; 8 bytes" % short(of["numpy"]["us"]), ""))
+    return rows
+
+
 def of_cascade(of):
     histories, chains = of["histories"], of["chains"]
     counts = ", ".join("{:,}".format(it["edits"]) for it in histories)
@@ -165,7 +177,7 @@ def desk_picture(of):
     return picture("set lines that are sent at once", "connections", "lines a second", lines)
 
 
-TABLES = {"lines": of_lines, "index": of_index, "cascade": of_cascade, "arrays": of_arrays, "history": of_history, "desk": of_desk, "wait": of_wait,
-          "journal": of_journal, "slow-lines": of_slow_lines}
+TABLES = {"lines": of_lines, "index": of_index, "transactions": of_transactions, "cascade": of_cascade, "arrays": of_arrays, "history": of_history, "desk": of_desk,
+          "wait": of_wait, "journal": of_journal, "slow-lines": of_slow_lines}
 PICTURES = {"cascade": ("undo", undo_picture, "undo by number"), "arrays": ("arrays", arrays_picture, "whole arrays"),
             "desk": ("desk", desk_picture, "desk")}

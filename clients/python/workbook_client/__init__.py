@@ -59,7 +59,7 @@ from .refusals import (
 from .serving import Served
 from .snapshot import Snapshot
 
-__version__ = "0.1.0"
+__version__ = "1.0.0"
 
 __all__ = [
     "Array", "BadLiteral", "BadMapping", "BadRequest", "Blocked", "Cascade", "Compacted", "Domain", "Edit",

@@ -19,7 +19,7 @@ mod misfit;
 
 pub use crate::misfit::Misfit;
 
-const VERSION: &str = "0.1.0";
+const VERSION: &str = "1.0.0";
 
 const RUN_EXAMPLE: &str = "Example:\n  workbook run < examples/first_run.jsonl";
 

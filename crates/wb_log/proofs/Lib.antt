@@ -13,3 +13,4 @@ pub mod Undoings
 pub mod Shortest
 pub mod Whole
 pub mod Covered
+pub mod Straight

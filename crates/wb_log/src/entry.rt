@@ -1,6 +1,6 @@
 //! The entries of a history, and the records in which they are kept.
 
-ghost use Rattle.std.specs.Prelude.{◌≡◌, [], ◌∷◌, ◌++◌, None, IfOk, IfSome, is_some, option_map};
+ghost use Rattle.std.specs.Prelude.{◌≡◌, [], ◌∷◌, ◌++◌, Some, None, IfOk, IfSome, is_some, option_map};
 ghost use Rattle.selective_undo.specs.Changes.{AllOnce};
 ghost use Rattle.wb_cells.specs.declared.cells.cell.Cell.TheVariants as cell;
 ghost use Rattle.wb_cells.specs.declared.cells.pattern.Pattern.TheVariants as pattern;
@@ -8,6 +8,7 @@ ghost use Rattle.wb_cells.specs.Cells.{cell_cmp};
 ghost use Rattle.wb_edit.specs.declared.command.Command.TheVariants as command;
 ghost use Rattle.wb_edit.specs.declared.edit.Edit.TheVariants.{Command as OneCommand};
 ghost use Rattle.wb_cells.specs.Reads.{all_read};
+ghost use Rattle.wb_log.specs.declared.entry.Before.TheVariants as before;
 ghost use Rattle.wb_log.specs.Kept.{kept_in};
 ghost use Rattle.wb_edit.specs.declared.asked_rectangle.AskedRectangle.TheVariants as asked_for;
 ghost use Rattle.wb_log.specs.Records.{element_reads, copy_reads, implicit_reads, member_edit, member_reads, filled_cell, fill_reads, value_before, before_in, cell_before};
@@ -433,6 +434,23 @@ impl Form {
 }
 
 impl Record {
+    /// A new value of an element, in force, by what the element was.
+    pub(crate) fn set(array: &Name, place: &AnyIndex, value: &i64, was: &i64) -> Record
+        ensures { result ≡ record {
+          edit = OneCommand (command.Set array.now place.now value.now);
+          kept = Some (record { footprint = element_reads array.now place.now; inverse = cell_before (cell.Element array.now place.now) (before.Number was.now) });
+        } }
+    {
+        Record {
+            form: Form::Set(Element {
+                array: *array,
+                place: *place,
+                value: *value,
+                was: Was::Number(*was),
+            }),
+        }
+    }
+
     /// An edit out of force; `NoMemory` where none is left for one that isn't a new value of an element or of an array.
     pub fn aside(alloc: Global, edit: Edit) -> Result<Record, NoMemory>
         ensures { IfOk result (λ x. x ≡ record { edit = edit; kept = None }) }
