@@ -18,7 +18,7 @@ use Rattle.wb_edit.specs.Commands.{number_cells}
 use Rattle.wb_edit.specs.Elements.{result_of, results, all_kept_if, all_within}
 use Rattle.wb_edit.specs.Numbers.{is_i64, fits_integer}
 use Rattle.wb_edit.specs.Plans.{Attempts, Makes, stopped}
-use Rattle.wb_edit.specs.Trees.{judged}
+use Rattle.wb_edit.specs.Trees.{judged, plain}
 use Rattle.wb_edit.proofs.Rectangles.{whole}
 use Rattle.wb_edit.proofs.SideBySide.{side_by_side, results_are, went_with, halted_with}
 
@@ -26,11 +26,11 @@ use Rattle.wb_edit.proofs.SideBySide.{side_by_side, results_are, went_with, halt
 
 pub concludes : (s : Cells) (us : List Pattern) (a : Name) (j : Result (List (Index × ℤ)) Refusal) (r : Result Changes AttemptErr) → Judges (numbered a j) r →
     Attempts (judged j (λ zs. write (number_cells a zs))) s us r us
-concludes s us a (Ok zs) (Ok xs) e = (e, sym (append-nil us))
+concludes s us a (Ok zs) (Ok xs) e = let same : number_cells a zs ≡ xs = cc in (ap Ok same, sym (append-nil us))
 concludes s us a (Ok zs) (Err (Refused why)) e = let no : ⊥ = cc in absurd no
 concludes s us a (Ok zs) (Err NoMemory) e = tt
 concludes s us a (Err stop) (Ok xs) e = let no : ⊥ = cc in absurd no
-concludes s us a (Err stop) (Err (Refused why)) e = (e, sym (append-nil us))
+concludes s us a (Err stop) (Err (Refused why)) e = let same : stop ≡ why = cc in (ap (λ r. Err (plain r)) same, sym (append-nil us))
 concludes s us a (Err stop) (Err NoMemory) e = tt
 
 -- a refusal is the same of the changes

@@ -1,4 +1,4 @@
-use Rattle.std.proofs.Common.{arith}
+use Rattle.std.proofs.Common.{◌≤◌, length, arith}
 use Rattle.wb_edit.specs.Edits.{placed}
 use Rattle.wb_edit.proofs.planning.plan_transaction.Goals as goal
 
@@ -6,7 +6,7 @@ pub placed-requires : goal.placed-requires
 placed-requires c =
     let stopped = rw c.in-Err-Refused.field-0-is at c.in-Err-Refused.ensures in
     let low = stopped.0 in
-    let few = (rw (← c.commands.ensures.same) c.commands.ensures.several).1 in
+    let few : length c.commands.result.now ≤ 4096 = rw c.commands.ensures.same c.commands.ensures.several.1 in
     omega (arith, low, few)
 
 pub returns-in-Ok : goal.returns-in-Ok
