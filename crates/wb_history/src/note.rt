@@ -41,7 +41,7 @@ pub(crate) fn note_answer(
     alloc: Global,
     found: Option<(LentEdit<'_>, bool)>,
 ) -> Result<Answer, Refusal>
-    ensures { OrNoMemory (note_answer (option_map (λ x. one_of (lent_edit x.0) x.1) found)) result }
+    ensures { OrNoMemory (note_answer (option_map (λ x. one_of (lent_edit x.0) x.1) found.entry)) result }
 {
     let Some((edit, _)) = found else {
         return Err(Refusal::NoSuchEdit);

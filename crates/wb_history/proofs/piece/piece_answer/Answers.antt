@@ -12,4 +12,5 @@ returns-in-None c =
     let s = c.args.book.now.cells in
     let there : array_kind (get s (Object c.args.array)) ≡ Ok c.in-Ok.field-0 = sym (c.in-Ok.ensures ∙ ap array_kind c.get.ensures) in
     let none : piece_at s c.args.array c.args.locale ≡ None = sym c.in-None.ensures in
-    ap piece_answer (piece_is_lent s c.args.array c.args.locale c.in-Ok.field-0 c.writes-formed.ensures.kept there ∙ ap or_outside none)
+    rw c.refused-in-None.ensures
+    (ap piece_answer (piece_is_lent s c.args.array c.args.locale c.in-Ok.field-0 c.writes-formed.ensures.kept there ∙ ap or_outside none))
