@@ -1,5 +1,6 @@
--- What a line is, by what the JSON crate said of it.
-use Rattle.std.proofs.Common.{◌≡◌, ◌≢◌, ℕ, List, Bool, true, false, Some, None, Result, Ok, Err, IfOk, IfErr, refl, ap, sym, ◌∙◌}
+-- What a line is, by what the JSON crate said of it, and what is no transaction by its op.
+use Rattle.std.proofs.Common.{◌≡◌, ◌≢◌, ℕ, List, Bool, true, false, Some, None, Result, Ok, Err, IfOk, IfErr, refl, ap, sym, ◌∙◌, subst, codes, if◌then◌else◌}
+use Rattle.std.specs.Prelude.{bytes_eq}
 use Rattle.std.specs.Str.{IsUtf8, is_utf8}
 use Rattle.std.proofs.lemmas.Str.{IsUtf8-from_is_utf8, is_utf8-from_IsUtf8}
 use Rattle.serde_json.specs.Data.{Data}
@@ -7,7 +8,9 @@ use Rattle.serde_json.specs.Read.{read}
 use Rattle.wb_log.specs.declared.refusal.Refusal.{Refusal}
 use Rattle.wb_log.specs.declared.refusal.Refusal.TheVariants.{BadRequest, NoMemory}
 use Rattle.wb_protocol.specs.Answers.{IsAnswer}
-use Rattle.wb_protocol.specs.Requests.{request, request_of, of_json}
+use Rattle.wb_protocol.specs.Requests.{by_single_op, transaction_of, by_op, request, request_of, of_json}
+use Rattle.wb_protocol.specs.declared.requests.request.Request.{Request}
+use Rattle.wb_protocol.proofs.OnTheWire.Members.{equal_key}
 
 pub json_line : (line : List ℕ) (d : Data) → IsUtf8 line → read line ≡ Some d → request line ≡ request_of d
 json_line line d u e = rw (is_utf8-from_IsUtf8 line u) (ap of_json e)
@@ -31,3 +34,14 @@ as_ok v w (Err why) e a = tt
 pub as_err : {X : Type 0} (v w r : Result X Refusal) → v ≡ w → IsAnswer w r → IfErr r (λ why. why ≢ NoMemory → v ≡ Err why)
 as_err v w (Ok x) e a = tt
 as_err v w (Err why) e a = λ h. e ∙ a h
+
+other_word : (op w : List ℕ) → (op ≡ w → ⊥) → bytes_eq op w ≡ false
+other_word op w n = elim (bytes_eq op w) as (λ b. bytes_eq op w ≡ b → b ≡ false) [
+  | true ↦ λ e. absurd (n (equal_key op w e))
+  | false ↦ λ e. refl
+] refl
+
+-- what has another op is no transaction
+pub by_other_op : (op : List ℕ) (d : Data) (r : Result Request Refusal) → (op ≡ codes "transaction" → ⊥) → IsAnswer (by_single_op op d) r → IsAnswer (by_op op d) r
+by_other_op op d r n a =
+    subst (λ (b : Bool). IsAnswer (if b then transaction_of d else by_single_op op d) r) (sym (other_word op (codes "transaction") n)) a

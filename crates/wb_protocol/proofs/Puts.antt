@@ -1,5 +1,5 @@
 -- The request of a number for each index of ranges, by how many numbers there are.
-use Rattle.std.proofs.Common.{◌≡◌, ℕ, ℤ, Bool, true, false, List, length, Result, Ok, Err, sym, ap, ◌∙◌, refl, nat_eq, if◌then◌else◌, eq-eqb, eqb-true}
+use Rattle.std.proofs.Common.{◌≡◌, ℤ, Bool, true, false, List, length, Result, Ok, Err, refl, nat_eq, if◌then◌else◌, eq-eqb, eqb-true}
 use Rattle.wb_cells.specs.Cells.{Name}
 use Rattle.wb_cells.specs.Shapes.{Range, indices}
 use Rattle.wb_edit.specs.declared.asked_numbers.AskedNumbers.TheVariants.{Rectangle as numbered}

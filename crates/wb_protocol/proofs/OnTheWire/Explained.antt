@@ -2,12 +2,11 @@
 use Rattle.std.proofs.Common.{◌≡◌, ◌≤◌, ◌+◌, ◌&&◌, ℕ, zero, suc, ℤ, Bool, true, false, List, [], ◌∷◌, codes, length, Option, Some, None, is_some, option_map}
 use Rattle.std.proofs.Common.{option_and_then, Result, Ok, Err, refl, sym, ap, ◌∙◌, subst, nat_eq, nat_lt, if◌then◌else◌, arith, eqb-true, eq-eqb, ltb-true}
 use Rattle.std.specs.Prelude.{bytes_eq, Contains}
-use Rattle.std.specs.Option.{ok_or}
 use Rattle.std.specs.List.{list_all}
 use Rattle.std.proofs.lemmas.List.Elements.{All-contains}
 use Rattle.std.proofs.lemmas.List.Sums.{AllPass-from_list_all}
 use Rattle.serde_json.specs.Data.{Data, null, boolean, number as json_number, string, array, object, Items, no_items, item, Members}
-use Rattle.serde_json.specs.Find.{get_item, get_member, as_str, as_number, as_i64, as_u64}
+use Rattle.serde_json.specs.Find.{get_item, get_member, as_str}
 use Rattle.wb_sets.proofs.Members.{first_contains, cons_contains}
 use Rattle.wb_cells.specs.Shapes.{Range, indices}
 use Rattle.wb_log.specs.declared.refusal.Refusal.{Refusal}
@@ -23,15 +22,15 @@ use Rattle.wb_protocol.specs.Wire.Faults.{fault_told, kind_of, Fails, IsMiscount
 use Rattle.wb_protocol.specs.Wire.Faults.{of_command as of_own_command, EditFails, IsFault, of_own, of_edit}
 use Rattle.wb_protocol.specs.Wire.Faults as kinds
 use Rattle.wb_protocol.specs.Wire.Spelled.{IsIntegers}
-use Rattle.wb_protocol.specs.Explained.{Rule, is_json, is_object, names_op, has_no_more, has_all, has_one_of, spells, are_counted, names_command, Explanation, of_whole, of_field}
+use Rattle.wb_protocol.specs.Explained.{is_object, names_op, spells, are_counted, names_command, Explanation, of_whole, of_field}
 use Rattle.wb_protocol.specs.Explained.{fault_in, text_in as text_of, within, fault_of, is_there, forms_of, is_form, form_in, foreign_in, missing_in}
-use Rattle.wb_protocol.specs.Explained.{formless_by, formless, value_explained, lesser, least_of, values_explained, counted_on, counted_over, counted_by}
+use Rattle.wb_protocol.specs.Explained.{formless_by, formless, value_explained, least_of, values_explained, counted_on, counted_over, counted_by}
 use Rattle.wb_protocol.specs.Explained.{count_explained, formed, op_explained, command_named, command_explained, at_place, commands_explained, listed_explained, edits_explained, before_edits}
-use Rattle.wb_protocol.specs.Explained.{op_named, data_explained, NamesNone, AtField, AtPlaceOr, Tells, TellsTheLeast}
+use Rattle.wb_protocol.specs.Explained.{op_named, NamesNone, AtField, AtPlaceOr, Tells, TellsTheLeast}
 use Rattle.wb_protocol.proofs.OnTheWire.Members.{true_false, equal_key, same_key}
 use Rattle.wb_protocol.proofs.OnTheWire.Values.{no_ok, no_some, some_same, ok_same, str_found, some_of_ok, integers_found_of, integers_read}
 use Rattle.wb_protocol.proofs.OnTheWire.Spellings.{domain_found, domain_read, rectangle_found, rectangle_read}
-use Rattle.wb_protocol.proofs.OnTheWire.Keys.{has, apart, IsThere, AllKeys, keys_counted, keys_there, keys_made, key_there, passes, members_same, not_whole_by, uncounted_op, FailsAt}
+use Rattle.wb_protocol.proofs.OnTheWire.Keys.{has, apart, IsThere, AllKeys, keys_counted, keys_made, key_there, members_same, not_whole_by, uncounted_op, FailsAt}
 use Rattle.wb_protocol.proofs.OnTheWire.Keys.{all_faults}
 use Rattle.wb_protocol.proofs.OnTheWire.Failing.{err_same, no_err, IsReader, name_reader, key_type_reader, operation_reader, reduction_reader, integer_reader, number_reader}
 use Rattle.wb_protocol.proofs.OnTheWire.Failing.{index_reader, integers_reader, offsets_reader, text_reader, note_reader, several_reader, domain_judged, domain_reader, mapping_reader, source_reader, workbook_reader}

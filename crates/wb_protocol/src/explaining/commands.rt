@@ -6,7 +6,7 @@ ghost use Rattle.wb_protocol.specs.Explained.{listed_explained, edits_explained}
 
 use crate::explaining::explanation::{Explanation, least_of};
 use crate::explaining::fault::Fault;
-use crate::explaining::members::member;
+use crate::explaining::members::{member, op_of};
 use crate::explaining::objects::op_explained;
 use crate::explaining::rules::Rule;
 use crate::requests::transactions::is_command_op;
@@ -39,7 +39,7 @@ fn command_explained(alloc: Global, value: &Value) -> Result<Option<Explanation>
     if !value.is_object() {
         return Ok(Some(Explanation::of_whole(Rule::IsObject)));
     }
-    match member(value, "op").and_then(Value::as_str) {
+    match op_of(value) {
         Some(op) => command_named(alloc, op, value),
         None => no_command(alloc),
     }

@@ -7,7 +7,7 @@ ghost use Rattle.wb_protocol.specs.Explained.{members_in, op_named, data_explain
 
 use crate::explaining::commands::edits_explained;
 use crate::explaining::explanation::Explanation;
-use crate::explaining::members::member;
+use crate::explaining::members::op_of;
 use crate::explaining::objects::{no_op, op_explained};
 use crate::explaining::rules::Rule;
 use serde_json::{Category, Error, Value};
@@ -31,7 +31,7 @@ fn data_explained(alloc: Global, value: &Value) -> Result<Option<Explanation>, N
     if !value.is_object() {
         return Ok(Some(Explanation::of_whole(Rule::IsObject)));
     }
-    match member(value, "op").and_then(Value::as_str) {
+    match op_of(value) {
         Some(op) => op_named(alloc, op, value),
         None => no_op(alloc),
     }

@@ -1,8 +1,8 @@
 // The members of a JSON object, whichever value it is.
-ghost use Rattle.std.specs.Prelude.{◌≡◌, option_map, map};
+ghost use Rattle.std.specs.Prelude.{◌≡◌, codes, option_map, option_and_then, map};
 ghost use Rattle.std.specs.List.{list_all};
 ghost use Rattle.std.specs.Result.{result_map_both};
-ghost use Rattle.serde_json.specs.Find.{get_member};
+ghost use Rattle.serde_json.specs.Find.{get_member, as_str};
 ghost use Rattle.serde_json.specs.View.{view};
 ghost use Rattle.wb_protocol.specs.Explained.{members_in, is_there, is_form, text_in};
 
@@ -16,6 +16,13 @@ pub(crate) fn member<'a>(value: &'a Value, key: &str) -> Option<&'a Value>
     ensures { option_map (λ v. view v.now) result ≡ get_member key.now (members_in (view value.now)) }
 {
     value.get(key)
+}
+
+/// The text of the member that names the op.
+pub(crate) fn op_of(value: &Value) -> Option<&str>
+    ensures { option_map (λ s. s.now) result ≡ option_and_then as_str (get_member (codes "op") (members_in (view value.now))) }
+{
+    member(value, "op").and_then(Value::as_str)
 }
 
 /// Whether a member of a key is there.

@@ -1,4 +1,4 @@
-use Rattle.std.proofs.Common.{◌≡◌, ◌++◌, drop, map}
+use Rattle.std.proofs.Common.{◌≡◌, drop, map}
 use Rattle.std.specs.List.{list_all}
 use Rattle.wb_protocol.specs.Explained.{has}
 use Rattle.wb_protocol.proofs.explaining.keys.all_have.Given as goal

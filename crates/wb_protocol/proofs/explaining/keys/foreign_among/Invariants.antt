@@ -1,4 +1,4 @@
-use Rattle.std.proofs.Common.{◌≡◌, ◌++◌, drop, map}
+use Rattle.std.proofs.Common.{◌≡◌, map}
 use Rattle.serde_json.specs.View.{members_view}
 use Rattle.wb_protocol.specs.Explained.{foreign_in}
 use Rattle.wb_protocol.proofs.explaining.keys.foreign_among.Given as goal

@@ -1,4 +1,4 @@
-use Rattle.std.proofs.Common.{◌≡◌, ◌++◌, drop, map}
+use Rattle.std.proofs.Common.{◌≡◌, drop, map}
 use Rattle.serde_json.specs.View.{view}
 use Rattle.wb_protocol.specs.Explained.{form_in, members_in}
 use Rattle.wb_protocol.proofs.explaining.keys.form_in.Given as goal

@@ -1,4 +1,4 @@
-use Rattle.std.proofs.Common.{◌≡◌, ◌++◌, drop, map}
+use Rattle.std.proofs.Common.{◌≡◌, drop, map}
 use Rattle.wb_protocol.specs.Explained.{some_has}
 use Rattle.wb_protocol.proofs.explaining.keys.some_has.Given as goal
 
