@@ -61,7 +61,7 @@ const OBJECTS: [Row; 10] = [
 ];
 
 // A line for each form, with its reply.
-const FORMS: [Row; 36] = [
+const FORMS: [Row; 39] = [
     (
         "{\"op\":\"set\",\"a\":\"A\",\"i\":2,\"v\":-5}",
         "{\"edit\":11,\"n\":1}",
@@ -176,10 +176,19 @@ const FORMS: [Row; 36] = [
         "{\"op\":\"explain\",\"line\":\"{\\\"op\\\":\\\"edits\\\"}\"}",
         "{\"wrong\":null}",
     ),
+    (
+        "{\"op\":\"transaction\",\"edits\":[{\"op\":\"set\",\"a\":\"A\",\"i\":1,\"v\":3},{\"op\":\"set\",\"a\":\"A\",\"i\":4,\"v\":4}],\"note\":\"both\"}",
+        "{\"edit\":14,\"n\":2}",
+    ),
+    ("{\"op\":\"note\",\"k\":14}", "{\"note\":\"both\"}"),
+    (
+        "{\"op\":\"transaction\",\"edits\":[{\"op\":\"set\",\"a\":\"A\",\"i\":1,\"v\":3},{\"op\":\"set\",\"a\":\"A\",\"i\":9,\"v\":4}]}",
+        "{\"at\":1,\"error\":\"E06\",\"name\":\"out-of-domain\"}",
+    ),
 ];
 
 // The places of lines in the table of forms, with lines that differ from them in a name or in one number.
-const OTHERS: [(usize, &str); 41] = [
+const OTHERS: [(usize, &str); 46] = [
     (0, "{\"op\":\"set\",\"a\":\"A\",\"i\":3,\"v\":-5}"),
     (0, "{\"op\":\"set\",\"a\":\"A\",\"i\":2,\"v\":5}"),
     (0, "{\"op\":\"set\",\"a\":\"B\",\"i\":2,\"v\":-5}"),
@@ -221,6 +230,17 @@ const OTHERS: [(usize, &str); 41] = [
     (33, "{\"op\":\"history\"}"),
     (34, "{\"op\":\"explain\",\"line\":\"sizes\"}"),
     (35, "{\"op\":\"edits\"}"),
+    (
+        36,
+        "{\"op\":\"transaction\",\"edits\":[{\"op\":\"set\",\"a\":\"A\",\"i\":1,\"v\":3},{\"op\":\"set\",\"a\":\"A\",\"i\":4,\"v\":5}],\"note\":\"both\"}",
+    ),
+    (
+        36,
+        "{\"op\":\"transaction\",\"edits\":[{\"op\":\"set\",\"a\":\"A\",\"i\":1,\"v\":3},{\"op\":\"set\",\"a\":\"A\",\"i\":4,\"v\":4}]}",
+    ),
+    (36, "{\"op\":\"set\",\"a\":\"A\",\"i\":1,\"v\":3}"),
+    (37, "{\"op\":\"note\",\"k\":13}"),
+    (38, "{\"op\":\"set\",\"a\":\"A\",\"i\":9,\"v\":4}"),
 ];
 
 const NEW_DOMAIN: &str = "{\"op\":\"assoc\",\"d\":\"N#\",\"of\":\"int\"}";
@@ -456,7 +476,7 @@ fn entries_in_each_form(rt: HostRuntime) -> Result<(), Fail> {
         Blank::new(16),
         &alone,
     )?;
-    assert!(rt; count == 46);
+    assert!(rt; count == 49);
     Ok(())
 }
 
