@@ -279,9 +279,10 @@ class TestPackage(Scratch):
         done = started([*dpkg, "-i", self.package])
         self.assertEqual(done.returncode, 0, done.stderr)
         self.assertTrue((self.root / "usr/share/man/man1/workbook.1.gz").exists())
-        cache = self.root / "usr/lib/python3/dist-packages/workbook_client/__pycache__"
-        cache.mkdir()
-        (cache / "book.cpython-311.pyc").touch()
+        for folder in ("lib/python3/dist-packages/workbook_client", "share/workbook/clients/python/tests"):
+            cache = self.root / "usr" / folder / "__pycache__"
+            cache.mkdir()
+            (cache / "book.cpython-311.pyc").touch()
         done = started([*dpkg, "--purge", "workbook"])
         self.assertEqual(done.returncode, 0, done.stderr)
         self.assertFalse((self.root / "usr").exists())

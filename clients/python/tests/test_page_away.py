@@ -158,6 +158,7 @@ class Away(InABrowser):
             browser.until("document.title === 'plan.wb · workbook'")
             self.line(browser, "D = {1..2}", "A over D", "A[1] = 5")
             terminal.process.send_signal(signal.SIGSTOP)
+            os.waitpid(terminal.process.pid, os.WUNTRACED)  # it has stopped: a thread of its may answer before
             browser.click("#words")
             browser.type("A[1] = 6")
             browser.key("Enter")
