@@ -274,7 +274,7 @@ class Page(InABrowser):
         other.undo(702)
         A[2] = 7  # what comes is seen as before
         browser.until("document.querySelectorAll('.edits li').length === 601 && document.querySelector('.edits li').innerText.includes('A[2] = 7')")
-        browser.click(".edits li.earlier button")
+        browser.js("document.querySelector('.edits li.earlier button').click()")  # at once: the list is made anew as blockers come
         browser.until("document.querySelectorAll('.edits li').length === 703 && !document.querySelector('.edits li.earlier')")
         self.assertIn("D = {1..2}", browser.text(".edits li[data-k='1']"))
         self.assertIn("taken back", browser.text(".edits li[data-k='702']"))
