@@ -121,7 +121,7 @@ class AtATerminal(unittest.TestCase):
 
     def test_what_is_gathered_stays_gathered(self):
         """A commit that wasn't sent is made once the workbook is there."""
-        for line, prompt in (("begin", "(0 begun)> "), ("A[1] = 7", "(1 begun)> "), ("A[2] = 8", "(2 begun)> ")):
+        for line, prompt in (("begin", "(0 gathered)> "), ("A[1] = 7", "(1 gathered)> "), ("A[2] = 8", "(2 gathered)> ")):
             self.terminal.types(line + "\n")
             self.terminal.until(prompt)
         self.restarts(self.history())

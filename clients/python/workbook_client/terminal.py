@@ -88,7 +88,7 @@ def converse(session: Session) -> int:
 
 def prompt(session: Session) -> str:
     """What stands before a line: how many edits are gathered, where a transaction was begun."""
-    return PROMPT if session.begun is None else f"workbook ({session.gathered():,} begun)> "
+    return PROMPT if session.begun is None else f"workbook ({session.gathered():,} gathered)> "
 
 
 def answered(session: Session, text: str) -> bool:
