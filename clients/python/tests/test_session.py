@@ -126,7 +126,7 @@ class Talk(unittest.TestCase):
         self.assertEqual(self.say('commit "March forecast"'), "  edit 3, 10 cells: March forecast\n")
         self.assertEqual(self.say("note 3").splitlines()[:3], ["  edit 3: March forecast", "  1: A[1] = 5", "  2: E = {1..2}"])
         self.assertEqual(self.say("note 2"), "  edit 2 has no note\n")
-        self.assertIn("E11, no-such-edit", " ".join(self.say("note 4").split()))
+        self.assertEqual(self.say("note 4"), "  note 4: there is no such edit. (E11, no-such-edit)\n")
         self.assertIn('│ 3    │ me  │ "March forecast": A[1] = 5;', self.say("history"))
         self.assertEqual(self.say("A[1]"), "  5\n")
         self.assertIn('edit 3 is taken back, 10 cells: "March forecast": A[1] = 5', self.say("undo"))
