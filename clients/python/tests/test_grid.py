@@ -351,7 +351,7 @@ class Grid(InABrowser):
         browser.js("document.activeElement.value = ''")
         browser.type("Hours")
         browser.key("Enter")
-        self.says(browser, "row 3, column 3: '5.5' is no whole number")
+        self.says(browser, "row 3, column 3: whole numbers only: '5.5' isn't one")
         self.assertFalse(browser.js("document.getElementById('newtable').hidden"))
         browser.key("Escape")
         browser.until("document.getElementById('newtable').hidden")
