@@ -7,7 +7,7 @@ import tempfile
 import unittest
 from typing import Optional
 
-from tests.support import PROGRAM, Server, Terminal
+from tests.support import PATIENCE, PROGRAM, Server, Terminal
 from tests.test_streams import RedisAlike
 from workbook_client import OutOfDomain, SessionEnded, Workbook, away, hearing
 from workbook_client.hearing import News
@@ -121,13 +121,29 @@ class AtATerminal(unittest.TestCase):
 
     def test_what_is_gathered_stays_gathered(self):
         """A commit that wasn't sent is made once the workbook is there."""
-        for line, prompt in (("begin", "(0 begun)> "), ("A[1] = 7", "(1 begun)> "), ("A[2] = 8", "(2 begun)> ")):
+        for line, prompt in (("begin", "(0 gathered)> "), ("A[1] = 7", "(1 gathered)> "), ("A[2] = 8", "(2 gathered)> ")):
             self.terminal.types(line + "\n")
             self.terminal.until(prompt)
         self.restarts(self.history())
         told = self.types('commit "why"', "there again, with 3 edits; nothing was done meanwhile still gathered, and not made: 2 edits")
         self.assertIn("edit 4, 2 cells: why", told)
         self.types("note 4", "edit 4: why 1: A[1] = 7 2: A[2] = 8")
+
+    def test_a_line_that_is_not_waited_for(self):
+        """Ctrl-C tells whether its change was sent. The desk answers what was, before the next line."""
+        self.server._process.send_signal(signal.SIGSTOP)
+        for line, words in (
+            ("D = {1..8}", "(not waited for; no change was sent: type it again, if it is still meant)"),
+            ("A[1..2] = 7", "(not waited for; its reply is read before the next)"),
+        ):
+            self.terminal.types(line + "\n")
+            self.terminal.until(line)
+            self.terminal.waits(0.5 * PATIENCE)
+            self.terminal.interrupt()
+            self.assertIn(words, self.flat(self.terminal.until("workbook> ")))
+        self.server._process.send_signal(signal.SIGCONT)
+        self.types("size D", " 4 ")
+        self.types("history", "A[1..2] = 7 │ 2 │ in force")
 
     def test_it_is_waited_for(self):
         text = self.history()

@@ -270,8 +270,8 @@ class Grid(InABrowser):
         self.pastes(browser, "7\t8\t9")
         self.says(browser, "3 cells of A set by edit 3")
         self.has("A", 0, 7, 8, 9, 0)
-        self.pastes(browser, "7\n8")
-        self.says(browser, "2 rows and 1 column don't fit into A from [2] on")
+        self.pastes(browser, "7\t8\n9\t10")
+        self.says(browser, "2 rows and 2 columns don't fit into A from [2] on")
         with self.held() as book:
             book.array("B", book.domain("E", (range(1, 3), range(1, 3), range(1, 4))))
         browser.until(f"document.querySelector({json.dumps(cell('B[2, 1, 2]'))}) !== null")
@@ -282,6 +282,41 @@ class Grid(InABrowser):
         self.has("B", 0, 0, 0, 0, 0, 0, 0, 1, 2, 0, 3, 4)
         self.assertEqual(self.edits(browser)[-1], "paste\nB[2..2, 1..2, 2..3] = [1, 2, 3, 4]")
         self.assertEqual(browser.faults, [])
+
+    def test_pasting_a_column_onto_an_array_of_one_dimension(self):
+        """Its numbers are those of the elements from the chosen one on, as a spreadsheet has them one below another."""
+        browser = self.grid(range(1, 6))
+        browser.click(cell("A[2]"))
+        self.pastes(browser, "7\n8\n9\n")
+        self.says(browser, "3 cells of A set by edit 3")
+        self.shows(browser, "A[4]", 9)
+        self.has("A", 0, 7, 8, 9, 0)
+        self.assertEqual(browser.js(CHOSEN), "A[2] A[3] A[4]")
+        self.pastes(browser, "1\n2\n3\n4\n5")
+        self.says(browser, "5 rows and 1 column don't fit into A from [2] on")
+        self.assertEqual(self.edits(browser), ["paste\nA[2..4] = [7, 8, 9]"])
+        self.assertEqual(browser.faults, [])
+
+    def test_pasting_a_column_onto_an_array_over_texts(self):
+        with Workbook.run(PROGRAM) as book:
+            people = book.assoc("People", "text")
+            people |= {"Ada", "Ben", "Cleo"}
+            book.array("Hours", people)
+            browser = self.open(book)
+            browser.do("Browser.grantPermissions", permissions=["clipboardReadWrite", "clipboardSanitizedWrite"])
+            browser.until("document.querySelector('.value') !== null")
+            browser.click(cell('Hours["Ben"]'))
+            for text, words in (
+                ("34\n1.5", "row 2, column 1 of what is pasted: whole numbers only: 1.5 isn't one"),
+                ("34\n28\n7", "3 rows and 1 column don't fit into Hours from [Ben] on"),
+                ("34\n28", "2 cells of Hours set by edit 4"),
+            ):
+                self.pastes(browser, text)
+                self.says(browser, words)
+            self.shows(browser, 'Hours["Cleo"]', 28)
+            self.has("Hours", 0, 34, 28)
+            self.assertEqual(browser.js(CHOSEN), 'Hours["Ben"] Hours["Cleo"]')
+            self.assertEqual(browser.faults, [])
 
     def test_pasting_many_numbers(self):
         """Five thousand are one edit, also where not all of them are in the part that is shown."""
@@ -316,7 +351,7 @@ class Grid(InABrowser):
         browser.js("document.activeElement.value = ''")
         browser.type("Hours")
         browser.key("Enter")
-        self.says(browser, "row 3, column 3: '5.5' is no whole number")
+        self.says(browser, "row 3, column 3: whole numbers only: '5.5' isn't one")
         self.assertFalse(browser.js("document.getElementById('newtable').hidden"))
         browser.key("Escape")
         browser.until("document.getElementById('newtable').hidden")

@@ -179,9 +179,12 @@ class Basics(Case):
 
     def test_what_python_tells_before_the_program_is_asked(self):
         D, A = self.line()
-        for wrong in (1.5, "9", True, None):
-            with self.assertRaises(TypeError):
+        for wrong, words in ((1.5, "1.5"), ("9", "'9'"), (True, "True"), (None, "None")):
+            with self.assertRaises(TypeError) as no:
                 A[1] = wrong
+            self.assertEqual(str(no.exception), f"a value: whole numbers only: {words} isn't one")
+        with self.assertRaisesRegex(TypeError, "an index: whole numbers only: 1.5 isn't one"):
+            A[1.5]
         with self.assertRaises(ValueError):
             A[1] = 2**63
         with self.assertRaisesRegex(TypeError, "no slices"):

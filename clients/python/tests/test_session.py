@@ -126,7 +126,7 @@ class Talk(unittest.TestCase):
         self.assertEqual(self.say('commit "March forecast"'), "  edit 3, 10 cells: March forecast\n")
         self.assertEqual(self.say("note 3").splitlines()[:3], ["  edit 3: March forecast", "  1: A[1] = 5", "  2: E = {1..2}"])
         self.assertEqual(self.say("note 2"), "  edit 2 has no note\n")
-        self.assertIn("E11, no-such-edit", " ".join(self.say("note 4").split()))
+        self.assertEqual(self.say("note 4"), "  note 4: there is no such edit. (E11, no-such-edit)\n")
         self.assertIn('│ 3    │ me  │ "March forecast": A[1] = 5;', self.say("history"))
         self.assertEqual(self.say("A[1]"), "  5\n")
         self.assertIn('edit 3 is taken back, 10 cells: "March forecast": A[1] = 5', self.say("undo"))
@@ -432,12 +432,15 @@ class Whole(unittest.TestCase):
     def test_what_is_gathered_stands_in_the_prompt_and_is_asked_about(self):
         with tempfile.TemporaryDirectory() as place:
             terminal = self.at_a_terminal(os.path.join(place, "plan.wb"))
-            for line, prompt in (("D = {1..4}", ""), ("begin", " (0 begun)"), ("A over D", " (1 begun)"), ("A[1] = 5", " (2 begun)"), ("A[1 = 5", " (2 begun)")):
+            for line, prompt in (
+                ("D = {1..4}", ""), ("begin", " (0 gathered)"), ("A over D", " (1 gathered)"), ("A[1] = 5", " (2 gathered)"),
+                ("A[1 = 5", " (2 gathered)"),
+            ):
                 terminal.until("> ")
                 terminal.types(line + "\n")
                 told = terminal.until(f"workbook{prompt}> ")
                 terminal.types("\n")
-            self.assertIn("\n" + " " * (len("workbook (2 begun)> ") + 4) + "^", told.replace("\r", ""))
+            self.assertIn("\n" + " " * (len("workbook (2 gathered)> ") + 4) + "^", told.replace("\r", ""))
             for leave in ("quit\n", "\x04"):
                 terminal.until("> ")
                 terminal.types(leave)
@@ -478,7 +481,7 @@ class Whole(unittest.TestCase):
             session = Session(wb, io.StringIO(), width=80)
             for wanted in blocks:
                 session.out = io.StringIO()
-                for line in re.findall(r"^workbook(?: \(\d+ begun\))?> (.*)$", wanted, re.M):
+                for line in re.findall(r"^workbook(?: \(\d+ gathered\))?> (.*)$", wanted, re.M):
                     session.say(prompt(session) + line)
                     session.line(line, prompt(session))
                 self.assertEqual(session.out.getvalue(), wanted)

@@ -120,10 +120,10 @@ class In(Sheets):
             ("9,1,2,3\n9,4,5,6\n", "the file has 4 columns of numbers, and the array 3"),
             ("Mon,2,3\n4,5,6\n7,8,9\n", "3 rows of numbers"), ("2021,5,-6,7\nBen,8,9,10\n", "4 columns of numbers"),
             ("0,7,8,9\n1,4,5,6\n2,7,8,9\n", "the file has 3 rows of numbers"), ("7,1,2,3\n9,4,5,6\n8,7,8,9\n", "4 columns of numbers"),
-            ("1,2,3\n4,1.5,6\n", "row 2, column 2: '1.5' is no whole number; whole numbers only: 1.5 isn't one"),
-            ("\n1,2,3\n\n4,1.5,6\n", "row 4, column 2: '1.5' is"), ("\n\n1,2,3\n4,5\n", "row 4 has 2 cells, and row 3 has 3"),
-            ("1,2,3\n4,,6\n", "row 2, column 2 is empty"), ("Mon,Tue,Wed\n1,2,3\n4,5,x\n", "row 3, column 3: 'x' is no"),
-            ("a,1,2,3\nb,4,5,1e3\n", "row 2, column 4: '1e3'"), ('1,2,3\n4,"1,000",6\n', "row 2, column 2: '1,000'"),
+            ("1,2,3\n4,1.5,6\n", "row 2, column 2: whole numbers only: '1.5' isn't one"),
+            ("\n1,2,3\n\n4,1.5,6\n", "row 4, column 2: whole numbers only: '1.5'"), ("\n\n1,2,3\n4,5\n", "row 4 has 2 cells, and row 3 has 3"),
+            ("1,2,3\n4,,6\n", "row 2, column 2 is empty"), ("Mon,Tue,Wed\n1,2,3\n4,5,x\n", "row 3, column 3: whole numbers only: 'x' isn't one"),
+            ("a,1,2,3\nb,4,5,1e3\n", "row 2, column 4: whole numbers only: '1e3'"), ('1,2,3\n4,"1,000",6\n', "row 2, column 2: whole numbers only: '1,000'"),
             ("1,2,3\n4,5,9223372036854775808\n", "row 2, column 3: a number has 64 bits at most"), ("1,2,3\n4,5," + "9" * 5000, "64 bits"),
             ("1,2,3\n4,5,--6\n", "'--6'"), ("1,2,3\n4,5,٣\n", "'٣'"), ('1,2,"3\n4,5,6\n', "no file of rows and columns"),
             ('1,2,3\n4,5,"6"7\n', "no file of rows and columns"),
@@ -207,9 +207,12 @@ class NewTables(unittest.TestCase):
                         sheets.guessed(sheets.cells_of(text))
                 else:
                     self.assertEqual(sheets.guessed(sheets.cells_of(text)), table)
-        for text, why in (("name,2021\nx,5\n", "row 1 may be headings"), ("1,2\n3,3.5\n", "row 2, column 2: '3.5'"), ("a\n", "'a' is no whole"), ("1,\n2,3\n", "row 1, column 2 is empty"),
-                          ("1,x\n2,3\n", "row 1, column 2: 'x'"), ("1,2\nx,3\n", "row 2, column 1: 'x'"), ("a,1\nb,2\n", "may be headings"),
-                          ("a,b\n", "'b' is no whole"), ("a,b\nx,\n", "is empty"), (",\n,\n", "is empty")):
+        for text, why in (
+            ("name,2021\nx,5\n", "row 1 may be headings"), ("1,2\n3,3.5\n", "row 2, column 2: whole numbers only: '3.5'"),
+            ("a\n", "whole numbers only: 'a' isn't one"), ("1,\n2,3\n", "row 1, column 2 is empty"),
+            ("1,x\n2,3\n", "row 1, column 2: whole numbers only: 'x'"), ("1,2\nx,3\n", "row 2, column 1: whole numbers only: 'x'"),
+            ("a,1\nb,2\n", "may be headings"), ("a,b\n", "whole numbers only: 'b' isn't one"), ("a,b\nx,\n", "is empty"), (",\n,\n", "is empty"),
+        ):
             with self.subTest(text), self.assertRaisesRegex(ValueError, why):
                 sheets.guessed(sheets.cells_of(text))
 
@@ -239,7 +242,7 @@ class NewTables(unittest.TestCase):
             with open(path, encoding="utf-8") as file:
                 self.assertEqual(file.read(), text + "\n")
             edits = wb.counts()
-            with self.assertRaisesRegex(ValueError, "row 84, column 51: 'x' is no whole number"):
+            with self.assertRaisesRegex(ValueError, "row 84, column 51: whole numbers only: 'x' isn't one"):
                 A.from_csv(io.StringIO(text[: text.rindex(",")] + ",x\n"))
             self.assertEqual(wb.counts(), edits)
 
@@ -270,8 +273,8 @@ class Frames(unittest.TestCase):
             self.assertEqual((list(wb["B"]), "BRow" in wb), ([1, 2, 3, 4], False))
             before = wb.print_text()
             for values, columns, why in (
-                ([[1, 2], [3, 4.5]], ["a", "b"], "the element in row .*, column b is a whole number, not"), ([[], []], [], "no elements"),
-                ([[1, 2], [3, None]], ["a", "b"], "column b is a whole number, not"),
+                ([[1, 2], [3, 4.5]], ["a", "b"], "the element in row .*, column b: whole numbers only: 4.5 isn't one"), ([[], []], [], "no elements"),
+                ([[1, 2], [3, None]], ["a", "b"], "column b: whole numbers only: .* isn't one"),
             ):
                 with self.subTest(why), self.assertRaisesRegex((TypeError, ValueError), why):
                     wb.from_dataframe("C", self.make(values, [0, 1], columns))
@@ -397,8 +400,8 @@ class BySession(unittest.TestCase):
     def test_what_is_refused_is_told_and_changes_nothing(self):
         self.say("D = {1..2, 1..2}", "A over D")
         for line, why in (
-            (f"import A {self.file(POINT)}", "row 2, column 2: '4.5' is no whole number"),
-            (f"import New {self.file(POINT)}", "row 2, column 2: '4.5' is no whole number"),
+            (f"import A {self.file(POINT)}", "row 2, column 2: whole numbers only: '4.5' isn't one"),
+            (f"import New {self.file(POINT)}", "row 2, column 2: whole numbers only: '4.5' isn't one"),
             ("import A " + os.path.join(self.place, "gone"), "No such file"), (f"import A {self.place}", "Is a directory"),
             ("export A " + os.path.join(self.place, "no", "x.csv"), "No such file"), ("export D x.csv", "no array is called D; that is a domain"),
             ("export X x.csv", "no array is called X"), ("import A", "expected an array and a file's name"), ("import D " + self.file("1,2\n", "row.csv"), "E05"),

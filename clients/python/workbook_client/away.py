@@ -7,7 +7,7 @@ from . import hearing
 from .errors import SessionEnded
 from .hearing import News
 from .redis import RedisRefused
-from .requests import QUESTIONS, Request, in_words
+from .requests import Request, in_words, is_change
 from .session import Session, numbered
 
 SOON, LATER = 0.5, 10.0
@@ -71,7 +71,7 @@ def tell_unanswered(session: Session) -> None:
 
 def changes_of(asked: List[Request]) -> List[str]:
     """Those of these requests that change something, in words."""
-    return [in_words(request) for request in asked if request.get("op", "print") not in QUESTIONS]
+    return [in_words(request) for request in asked if is_change(request)]
 
 
 def _tried(session: Session) -> News:

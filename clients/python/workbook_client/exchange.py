@@ -7,7 +7,7 @@ from typing import Any, Callable, Deque, Dict, List, Optional, Tuple, Type, Type
 from .channel import Channel
 from .errors import NoSeat, SessionEnded, StrangeReply
 from .refusals import LineTooLong, Refusal, refusal
-from .requests import Request
+from .requests import Request, is_change
 
 LONGEST = 65_536
 """So many bytes a request may have before its line end."""
@@ -104,6 +104,8 @@ class Exchange:
         self._bytes = 0
         self.posted = 0
         """How many requests went out."""
+        self.changes = 0
+        """How many of them ask for a change."""
         self._torn = ""
 
     def post(self, request: Request, keep: Optional[Keep] = None) -> Reading:
@@ -180,6 +182,7 @@ class Exchange:
             self._waiting.append((reading, len(line), keep))
             self._bytes += len(line)
             self.posted += 1
+            self.changes += is_change(reading.request)
             self._torn = ""
         except SessionEnded:  # nothing was sent; replies from before may still come
             self._torn = ""

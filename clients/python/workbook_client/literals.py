@@ -28,11 +28,11 @@ LONGEST_NOTE = 256
 def integer(value: Any, what: str = "a value") -> int:
     """The value as an int of 64 bits. Anything that isn't a whole number is refused here."""
     if isinstance(value, bool):
-        raise TypeError(f"{what} is a whole number, not {value!r}")
+        raise TypeError(f"{what}: whole numbers only: {value!r} isn't one")
     try:
         number = operator.index(value)  # also the integers of numpy
     except TypeError:
-        raise TypeError(f"{what} is a whole number, not {value!r}") from None
+        raise TypeError(f"{what}: whole numbers only: {value!r} isn't one") from None
     if not LEAST <= number <= GREATEST:
         raise ValueError(f"{what} has 64 bits at most, and {number} has more")
     return number

@@ -41,27 +41,32 @@ export function placed(text, on) {
 function onRanges(rows, {plane, name, top, left}, decimals) {
   const down = plane.line ? [null] : axis(plane.axes[plane.top.length]), across = axis(plane.axes[plane.axes.length - 1]);
   const [r, c] = [plane.row + top, plane.column + left];
-  const these = [down.slice(r, r + rows.length), across.slice(c, c + rows[0].length)];
-  if (these[0].length < rows.length || these[1].length < rows[0].length) return unfit(rows, name, at(plane, down[r], across[c]));
+  const [high, wide] = extent(rows, plane), these = [down.slice(r, r + high), across.slice(c, c + wide)];
+  if (these[0].length < high || these[1].length < wide) return unfit(rows, name, at(plane, down[r], across[c]));
   const wrong = firstWrong(rows, number => whole(number, decimals));
   if (wrong) return {wrong};
   const spelled = [...plane.top.map(one), ...(plane.line ? [] : [range(these[0])]), range(these[1])];
   const keys = these[0].flatMap(i => these[1].map(j => name + "[" + at(plane, i, j) + "]"));
-  return {on: "{" + spelled.join(", ") + "}", vs: rows.flat(), keys, last: [rows.length, rows[0].length]};
+  return {on: "{" + spelled.join(", ") + "}", vs: rows.flat(), keys, last: [high, wide]};
 }
 
 /** Of another domain those indices are there that are shown. */
 function onCells(rows, {plane, name, top, left}, decimals) {
-  if (top + rows.length > plane.cells.length || left + rows[0].length > plane.columns.length) {
+  const [high, wide] = extent(rows, plane);
+  if (top + high > plane.cells.length || left + wide > plane.columns.length) {
     return unfit(rows, name, at(plane, plane.rows[top], plane.columns[left]));
   }
-  const cellAt = (r, c) => plane.cells[top + r][left + c];
-  const wrong = firstWrong(rows, (number, r, c) => (cellAt(r, c) ? whole(number, decimals) : number && "there is no element"));
+  const cells = plane.cells.slice(top, top + high).flatMap(row => row.slice(left, left + wide));
+  const cellOf = (r, c) => cells[r * rows[0].length + c];
+  const wrong = firstWrong(rows, (number, r, c) => (cellOf(r, c) ? whole(number, decimals) : number && "there is no element"));
   if (wrong) return {wrong};
-  const set = rows.flatMap((row, r) => row.map((number, c) => [cellAt(r, c), number])).filter(([cell]) => cell);
+  const set = rows.flat().map((number, n) => [cells[n], number]).filter(([cell]) => cell);
   if (!set.length) return {wrong: "there is no number in what is pasted"};
-  return {set, keys: set.map(([cell]) => cell.dataset.key), last: [rows.length, rows[0].length]};
+  return {set, keys: set.map(([cell]) => cell.dataset.key), last: [high, wide]};
 }
+
+/** How many rows and columns of a plane a text is laid on. A column is the elements of an array of one dimension, which stand in a row. */
+const extent = (rows, plane) => (plane.line && rows[0].length === 1 ? [1, rows.length] : [rows.length, rows[0].length]);
 
 /** The first cell of a text of which something is wrong, and what. */
 function firstWrong(rows, judged) {

@@ -128,7 +128,7 @@ class Overflow(Refusal):
 
 class NoSuchEdit(Refusal):
     code, name = "E11", "no-such-edit"
-    advice = "there is no such edit, or nothing left to take back."
+    advice = "there is no such edit."
 
 
 class NotInForce(Refusal):

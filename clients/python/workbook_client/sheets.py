@@ -209,7 +209,7 @@ def _number(cell: str, row: int, column: int) -> int:
     if not text:
         raise ValueError(f"{place} is empty: a whole number is wanted, 0 where there is none")
     if not NUMBER.fullmatch(text):
-        raise ValueError(f"{place}: {text[:SHORT]!r} is no whole number; whole numbers only: 1.5 isn't one")
+        raise ValueError(f"{place}: whole numbers only: {text[:SHORT]!r} isn't one")
     value = int(text) if len(text.lstrip("+-0")) < 20 else GREATEST + 1
     if not LEAST <= value <= GREATEST:
         raise ValueError(f"{place}: a number has 64 bits at most, and {text[:SHORT]} has more")

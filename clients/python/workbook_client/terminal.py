@@ -88,7 +88,7 @@ def converse(session: Session) -> int:
 
 def prompt(session: Session) -> str:
     """What stands before a line: how many edits are gathered, where a transaction was begun."""
-    return PROMPT if session.begun is None else f"workbook ({session.gathered():,} begun)> "
+    return PROMPT if session.begun is None else f"workbook ({session.gathered():,} gathered)> "
 
 
 def answered(session: Session, text: str) -> bool:
@@ -97,13 +97,24 @@ def answered(session: Session, text: str) -> bool:
     if text.strip() not in WITHOUT and away.is_gone(session) and not is_still_meant(session):
         session.wrapped("the line wasn't run, since that was before it: type it again, if it is still meant")
         return True
+    changes = session.book.exchange.changes
     try:
         return session.line(text, prompt(session))
     except SessionEnded as end:
         away.come_back(session, end)
     except KeyboardInterrupt:
-        session.say("  (not waited for; its reply is read before the next)")
+        session.wrapped(f"(not waited for; {what_became(session, changes)})")
     return True
+
+
+def what_became(session: Session, changes: int) -> str:
+    """What is told of a line that Ctrl-C has ended; so many changes were sent before it."""
+    exchange = session.book.exchange
+    if exchange.changes == changes:
+        return "no change was sent: type it again, if it is still meant"
+    if exchange.channel.is_gone():
+        return "it was sent, so it is perhaps done"
+    return "its reply is read before the next"
 
 
 def is_still_meant(session: Session) -> bool:
