@@ -3,7 +3,7 @@ use Rattle.std.proofs.Common.{◌≡◌, ℕ, Bool, true, false, ◌&&◌, ◌==
 use Rattle.std.specs.Ordering.{bool_cmp}
 use Rattle.wb_footprints.specs.declared.part.Kind.{Kind}
 use Rattle.wb_footprints.specs.declared.part.Part.{Part}
-use Rattle.wb_footprints.specs.Points.{Coordinates}
+use Rattle.wb_cells.specs.declared.values.index.Index.{Index}
 use Rattle.wb_footprints.specs.declared.place.Place.{Place}
 use Rattle.wb_footprints.specs.declared.place.Place.TheVariants.{Objects, Of}
 use Rattle.wb_footprints.specs.declared.place_marks.PlaceMarks.{PlaceMarks}
@@ -24,14 +24,14 @@ module _ (old new : PlaceMarks) (stay : new.objects ≡ old.objects) where
       Sets (place_marked old) (place_marked new) (is_same_place (Of d x)) number b
   of_set d x number b h = record { at = of_at d x number b h }
 
-  block_at : (done : Bool) (d : Name) (kind : Kind) (ps : List Coordinates) (number : ℕ) →
+  block_at : (done : Bool) (d : Name) (kind : Kind) (ps : List Index) (number : ℕ) →
       Sets (spot_marked old.spots) (spot_marked new.spots) (λ s. done && in_spots d kind ps s) number true → (p : Place) (n : ℕ) →
       place_marked new p n ≡ (if (done && in_places d kind ps p) && (number == n) then true else place_marked old p n)
   block_at true d kind ps number h Objects n = ap (λ m. marked bool_cmp m true n) stay
   block_at false d kind ps number h Objects n = ap (λ m. marked bool_cmp m true n) stay
   block_at done d kind ps number h (Of e y) n = h.at (e, y) n
 
-  pub of_block : (done : Bool) (d : Name) (kind : Kind) (ps : List Coordinates) (number : ℕ) →
+  pub of_block : (done : Bool) (d : Name) (kind : Kind) (ps : List Index) (number : ℕ) →
       Sets (spot_marked old.spots) (spot_marked new.spots) (λ s. done && in_spots d kind ps s) number true →
       Sets (place_marked old) (place_marked new) (λ q. done && in_places d kind ps q) number true
   of_block done d kind ps number h = record { at = block_at done d kind ps number h }

@@ -1,4 +1,4 @@
--- The least number at one of several points.
+-- The least number at one of several indices.
 use Rattle.std.proofs.Common.{◌≡◌, ℕ, ◌<◌, ◌≤◌, ◌+◌, Bool, true, false, ◌&&◌, ◌||◌, Option}
 use Rattle.std.proofs.Common.{None, List, [], ◌++◌, length, take, get_or, refl, sym, ap, ◌∙◌}
 use Rattle.std.specs.List.{list_any}
@@ -6,7 +6,8 @@ use Rattle.std.proofs.lemmas.List.{take_all}
 use Rattle.std.proofs.lemmas.List.Folds.{list_any_more, list_any-append}
 use Rattle.wb_footprints.specs.declared.blocks.Block.{Block}
 use Rattle.wb_footprints.specs.Relation.{IsLeastAfter}
-use Rattle.wb_footprints.specs.Points.{Coordinates, in_points}
+use Rattle.wb_cells.specs.declared.values.index.Index.{Index}
+use Rattle.wb_footprints.specs.Indices.{in_indices}
 use Rattle.wb_footprints.specs.Numbers.{numbered}
 use Rattle.wb_footprints.specs.Blocks.{in_blocks}
 use Rattle.wb_footprints.proofs.Meeting.{any_or, any_like, any_none, least_like}
@@ -58,22 +59,22 @@ module _ {A : Type 0} where
   joined_least f xs ys zs e after r h = least_like (λ n. list_any (λ x. f x n) xs || list_any (λ x. f x n) ys) (λ n. list_any (λ x. f x n) zs) after r
       (λ n. ap (list_any (λ x. f x n)) e ∙ list_any-append (λ x. f x n) xs ys) h
 
-pub none_least : (ps : List Coordinates) (after : ℕ) → IsLeastAfter (λ n. list_any (λ p. in_blocks [] p n) ps) after None
+pub none_least : (ps : List Index) (after : ℕ) → IsLeastAfter (λ n. list_any (λ p. in_blocks [] p n) ps) after None
 none_least ps after = λ n up. any_none ps
 
 -- one block more
-pub block_more : (xs : List Block) (i after : ℕ) (d : Block) → i < length xs → (x : Block) → x ≡ get_or xs i d → (ps : List Coordinates) (r : Option ℕ) →
-    IsLeastAfter (λ n. list_any (λ p. in_blocks (take i xs) p n) ps || (list_any (in_points x.points) ps && numbered x.numbers n)) after r →
+pub block_more : (xs : List Block) (i after : ℕ) (d : Block) → i < length xs → (x : Block) → x ≡ get_or xs i d → (ps : List Index) (r : Option ℕ) →
+    IsLeastAfter (λ n. list_any (λ p. in_blocks (take i xs) p n) ps || (list_any (in_indices x.indices) ps && numbered x.numbers n)) after r →
     IsLeastAfter (λ n. list_any (λ p. in_blocks (take (i + 1) xs) p n) ps) after r
 block_more xs i after d l x e ps r h =
-    least_like (λ n. list_any (λ p. in_blocks (take i xs) p n) ps || (list_any (in_points x.points) ps && numbered x.numbers n))
+    least_like (λ n. list_any (λ p. in_blocks (take i xs) p n) ps || (list_any (in_indices x.indices) ps && numbered x.numbers n))
     (λ n. list_any (λ p. in_blocks (take (i + 1) xs) p n) ps) after r
-    (λ n. any_like (λ p. in_blocks (take (i + 1) xs) p n) (λ p. in_blocks (take i xs) p n || (in_points x.points p && numbered x.numbers n)) ps
-    (λ p. rw e (list_any_more (λ b. in_points b.points p && numbered b.numbers n) xs i d l))
-    ∙ any_or (λ p. in_blocks (take i xs) p n) (λ p. in_points x.points p && numbered x.numbers n) ps
-    ∙ ap (λ b. list_any (λ p. in_blocks (take i xs) p n) ps || b) (and_last (numbered x.numbers n) (in_points x.points) ps)) h
+    (λ n. any_like (λ p. in_blocks (take (i + 1) xs) p n) (λ p. in_blocks (take i xs) p n || (in_indices x.indices p && numbered x.numbers n)) ps
+    (λ p. rw e (list_any_more (λ b. in_indices b.indices p && numbered b.numbers n) xs i d l))
+    ∙ any_or (λ p. in_blocks (take i xs) p n) (λ p. in_indices x.indices p && numbered x.numbers n) ps
+    ∙ ap (λ b. list_any (λ p. in_blocks (take i xs) p n) ps || b) (and_last (numbered x.numbers n) (in_indices x.indices) ps)) h
 
-pub blocks_all : (xs : List Block) (i after : ℕ) → length xs ≤ i → (ps : List Coordinates) (r : Option ℕ) →
+pub blocks_all : (xs : List Block) (i after : ℕ) → length xs ≤ i → (ps : List Index) (r : Option ℕ) →
     IsLeastAfter (λ n. list_any (λ p. in_blocks (take i xs) p n) ps) after r → IsLeastAfter (λ n. list_any (λ p. in_blocks xs p n) ps) after r
 blocks_all xs i after l ps r h = least_like (λ n. list_any (λ p. in_blocks (take i xs) p n) ps) (λ n. list_any (λ p. in_blocks xs p n) ps) after r
     (λ n. ap (λ bs. list_any (λ p. in_blocks bs p n) ps) (sym (take_all i xs l))) h

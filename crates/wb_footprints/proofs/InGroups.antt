@@ -11,7 +11,7 @@ use Rattle.std.specs.declared.cmp.Ordering.TheVariants.{Less, Equal, Greater}
 use Rattle.std.proofs.lemmas.Bool.Decides.{nat_tests}
 use Rattle.std.proofs.lemmas.Cmp.{ranked}
 use Rattle.wb_footprints.specs.declared.blocks.Blocks.{Blocks}
-use Rattle.wb_footprints.specs.Points.{Coordinates}
+use Rattle.wb_cells.specs.declared.values.index.Index.{Index}
 use Rattle.wb_footprints.specs.Relation.{Sets}
 use Rattle.wb_footprints.specs.Blocks.{in_blocks}
 use Rattle.wb_footprints.specs.Groups.{in_groups, is_apart, AreAll}
@@ -32,7 +32,7 @@ turned false b c = refl
 
 -- ---- a number at a point
 
-module _ (p : Coordinates) (n : ℕ) where
+module _ (p : Index) (n : ℕ) where
   abbrev pub has : Blocks → Bool
   has b = in_blocks b.list.items p n
 
@@ -79,10 +79,10 @@ module _ (p : Coordinates) (n : ℕ) where
 
 -- ---- a test of all
 
-abbrev pub Passes : (ℕ → Coordinates → ℕ → Bool) → ℕ → Blocks → Type 0
-Passes f k b = (p : Coordinates) (n : ℕ) → in_blocks b.list.items p n ≡ true → f k p n ≡ true
+abbrev pub Passes : (ℕ → Index → ℕ → Bool) → ℕ → Blocks → Type 0
+Passes f k b = (p : Index) (n : ℕ) → in_blocks b.list.items p n ≡ true → f k p n ≡ true
 
-module _ (f : ℕ → Coordinates → ℕ → Bool) (k : ℕ) where
+module _ (f : ℕ → Index → ℕ → Bool) (k : ℕ) where
   moved : (j : ℕ) (w : Blocks) → Equal ≡ nat_cmp k j → Passes f k w → Passes f j w
   moved j w is h = let key : k ≡ j = ranked k j Equal is in λ p n there. subst (λ (i : ℕ). f i p n ≡ true) key (h p n there)
 
@@ -120,7 +120,7 @@ module _ (f : ℕ → Coordinates → ℕ → Bool) (k : ℕ) where
   all_put [] w h a = (h, tt)
   all_put (e ∷ es) w h a = all_put_by e es w (nat_cmp k e.0) refl h (all_put es w h a.1) a
 
-module _ (f : ℕ → Coordinates → ℕ → Bool) where
+module _ (f : ℕ → Index → ℕ → Bool) where
   all_removed_by : (test : ℕ → Bool) (e : ℕ × Blocks) (es : List (ℕ × Blocks)) (b : Bool) → AreAll f (remove_entry test es) → AreAll f (e ∷ es) →
       AreAll f (cond b es (e ∷ remove_entry test es))
   all_removed_by test e es true rest a = a.1
@@ -130,7 +130,7 @@ module _ (f : ℕ → Coordinates → ℕ → Bool) where
   all_removed test [] a = tt
   all_removed test (e ∷ es) a = all_removed_by test e es (test e.0) (all_removed test es a.1) a
 
-  pub all_more : (g : ℕ → Coordinates → ℕ → Bool) → ((k : ℕ) (p : Coordinates) (n : ℕ) → f k p n ≡ true → g k p n ≡ true) → (es : List (ℕ × Blocks)) →
+  pub all_more : (g : ℕ → Index → ℕ → Bool) → ((k : ℕ) (p : Index) (n : ℕ) → f k p n ≡ true → g k p n ≡ true) → (es : List (ℕ × Blocks)) →
       AreAll f es → AreAll g es
   all_more g h [] a = tt
   all_more g h (e ∷ es) a = (λ p n there. h e.0 p n (a.0 p n there), all_more g h es a.1)
@@ -153,15 +153,15 @@ unlike key k Less is e = let l : key < k = ranked key k Less is in grind (arith,
 unlike key k Equal is e = cc
 unlike key k Greater is e = let l : k < key = ranked key k Greater is in grind (arith, nat_tests)
 
-module _ (f : ℕ → Coordinates → ℕ → Bool) (key number : ℕ) where
+module _ (f : ℕ → Index → ℕ → Bool) (key number : ℕ) where
   -- the test, and that the key and the number are not those that are taken apart
-  abbrev pub cut : ℕ → Coordinates → ℕ → Bool
+  abbrev pub cut : ℕ → Index → ℕ → Bool
   cut k p n = f k p n && is_apart key number k n
 
   cut_other : (k : ℕ) (b : Blocks) → (key == k) ≡ false → Passes f k b → Passes cut k b
   cut_other k b e h = λ p n there. and_both (f k p n) (is_apart key number k n) (h p n there) (apart_key key number k n e)
 
-  cut_here : (k : ℕ) (v w : Blocks) → ((p : Coordinates) (n : ℕ) → in_blocks w.list.items p n ≡ true → (in_blocks v.list.items p n ≡ true) × ((number == n) ≡ false)) →
+  cut_here : (k : ℕ) (v w : Blocks) → ((p : Index) (n : ℕ) → in_blocks w.list.items p n ≡ true → (in_blocks v.list.items p n ≡ true) × ((number == n) ≡ false)) →
       Passes f k v → Passes cut k w
   cut_here k v w less h = λ p n there.
       let was = less p n there in
@@ -187,7 +187,7 @@ module _ (f : ℕ → Coordinates → ℕ → Bool) (key number : ℕ) where
 
   present_by : (e : ℕ × Blocks) (es : List (ℕ × Blocks)) (v w : Blocks) (o : Ordering) → o ≡ nat_cmp key e.0 →
       AllByRecursion (λ y. nat_cmp e.0 y ≡ Less) (keys_of es) → cond (is_eq o) (Some e.1) (lookup (is_at (nat_cmp key)) es) ≡ Some v →
-      ((p : Coordinates) (n : ℕ) → in_blocks w.list.items p n ≡ true → (in_blocks v.list.items p n ≡ true) × ((number == n) ≡ false)) → AreAll f (e ∷ es) →
+      ((p : Index) (n : ℕ) → in_blocks w.list.items p n ≡ true → (in_blocks v.list.items p n ≡ true) × ((number == n) ≡ false)) → AreAll f (e ∷ es) →
       (lookup (is_at (nat_cmp key)) es ≡ Some v → AreAll cut (set_value (is_at (nat_cmp key)) es w)) →
       AreAll cut (cond (is_eq o) ((e.0, w) ∷ es) (e ∷ set_value (is_at (nat_cmp key)) es w))
   present_by e es v w Less is s found less a more = (cut_other e.0 e.1 (unlike key e.0 Less is refl) a.0, more found)
@@ -198,7 +198,7 @@ module _ (f : ℕ → Coordinates → ℕ → Bool) (key number : ℕ) where
 
   -- its blocks say less, and nothing of the number
   pub cut_present : (es : List (ℕ × Blocks)) (v w : Blocks) → IsStrictlySortedBy nat_cmp (keys_of es) → lookup (is_at (nat_cmp key)) es ≡ Some v →
-      ((p : Coordinates) (n : ℕ) → in_blocks w.list.items p n ≡ true → (in_blocks v.list.items p n ≡ true) × ((number == n) ≡ false)) → AreAll f es →
+      ((p : Index) (n : ℕ) → in_blocks w.list.items p n ≡ true → (in_blocks v.list.items p n ≡ true) × ((number == n) ≡ false)) → AreAll f es →
       AreAll cut (set_value (is_at (nat_cmp key)) es w)
   unfolding IsStrictlySortedBy
   cut_present [] v w s found less a = cc
@@ -218,9 +218,9 @@ and_last_true : (a b : Bool) → a && b ≡ true → b ≡ true
 and_last_true true b e = e
 and_last_true false b e = cc
 
--- where a number came in at some points, and passes there, all pass
-pub passes_set : (f : ℕ → Coordinates → ℕ → Bool) (key number : ℕ) (v w : Blocks) (done : Bool) (here : Coordinates → Bool) →
-    Sets (in_blocks v.list.items) (in_blocks w.list.items) (λ p. done && here p) number true → ((p : Coordinates) → here p ≡ true → f key p number ≡ true) →
+-- where a number came in at some indices, and passes there, all pass
+pub passes_set : (f : ℕ → Index → ℕ → Bool) (key number : ℕ) (v w : Blocks) (done : Bool) (here : Index → Bool) →
+    Sets (in_blocks v.list.items) (in_blocks w.list.items) (λ p. done && here p) number true → ((p : Index) → here p ≡ true → f key p number ≡ true) →
     Passes f key v → Passes f key w
 passes_set f key number v w done here s new old = λ p n there. elim (set_then (done && here p) (number == n) (in_blocks v.list.items p n) (sym (s.at p n) ∙ there)) [
   | inl both ↦ subst (λ (i : ℕ). f key p i ≡ true) (number_of number n both.1) (new p (and_last_true done (here p) both.0))
@@ -233,7 +233,7 @@ taken_then false x e = (e, refl)
 
 -- where a number was taken away, less is left, and nothing of the number
 pub less_left : (number : ℕ) (v w : Blocks) → Sets (in_blocks v.list.items) (in_blocks w.list.items) (λ p. true) number false →
-    (p : Coordinates) (n : ℕ) → in_blocks w.list.items p n ≡ true → (in_blocks v.list.items p n ≡ true) × ((number == n) ≡ false)
+    (p : Index) (n : ℕ) → in_blocks w.list.items p n ≡ true → (in_blocks v.list.items p n ≡ true) × ((number == n) ≡ false)
 less_left number v w s p n there = taken_then (number == n) (in_blocks v.list.items p n) (sym (s.at p n) ∙ there)
 
 others_then : (num x y : Bool) → num ≡ false → y ≡ (if true && num then false else x) → y ≡ x
@@ -241,7 +241,7 @@ others_then true x y e is = cc
 others_then false x y e is = is
 
 pub others_left : (number : ℕ) (v w : Blocks) → Sets (in_blocks v.list.items) (in_blocks w.list.items) (λ p. true) number false →
-    (p : Coordinates) (n : ℕ) → (number == n) ≡ false → in_blocks w.list.items p n ≡ in_blocks v.list.items p n
+    (p : Index) (n : ℕ) → (number == n) ≡ false → in_blocks w.list.items p n ≡ in_blocks v.list.items p n
 others_left number v w s p n other = others_then (number == n) (in_blocks v.list.items p n) (in_blocks w.list.items p n) other (s.at p n)
 
 -- ---- a key comes with its first blocks
@@ -259,10 +259,10 @@ module _ (old mid new : BTreeMap ℕ Blocks) (key : ℕ) (fresh w : Blocks) (sam
   put_in : new.entries ≡ insert_entry nat_cmp old.entries key w
   put_in = entries ∙ ap (λ (m : BTreeMap ℕ Blocks). insert_entry nat_cmp m.entries key w) same
 
-  nothing : (p : Coordinates) (n : ℕ) → in_blocks fresh.list.items p n ≡ false
+  nothing : (p : Index) (n : ℕ) → in_blocks fresh.list.items p n ≡ false
   nothing p n = ap (λ bs. in_blocks bs p n) bare
 
-  pub groups_put : (here : Coordinates → Bool) (number : ℕ) → Sets (in_blocks fresh.list.items) (in_blocks w.list.items) here number true →
+  pub groups_put : (here : Index → Bool) (number : ℕ) → Sets (in_blocks fresh.list.items) (in_blocks w.list.items) here number true →
       Sets (in_groups old.entries) (in_groups new.entries) here number true
   groups_put here number s = record {
     at = λ p n.
@@ -272,8 +272,8 @@ module _ (old mid new : BTreeMap ℕ Blocks) (key : ℕ) (fresh w : Blocks) (sam
         ∙ or_if (here p && (number == n)) (in_groups old.entries p n);
   }
 
-  pub all_put_in : (f : ℕ → Coordinates → ℕ → Bool) (number : ℕ) (done : Bool) (here : Coordinates → Bool) →
-      Sets (in_blocks fresh.list.items) (in_blocks w.list.items) (λ p. done && here p) number true → ((p : Coordinates) → here p ≡ true → f key p number ≡ true) →
+  pub all_put_in : (f : ℕ → Index → ℕ → Bool) (number : ℕ) (done : Bool) (here : Index → Bool) →
+      Sets (in_blocks fresh.list.items) (in_blocks w.list.items) (λ p. done && here p) number true → ((p : Index) → here p ≡ true → f key p number ≡ true) →
       AreAll f old.entries → AreAll f new.entries
   all_put_in f number done here s pass a =
       subst (AreAll f) (sym put_in) (all_put f key old.entries w

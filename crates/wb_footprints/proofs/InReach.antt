@@ -19,12 +19,13 @@ use Rattle.wb_footprints.specs.declared.marks.Marks.{Marks}
 use Rattle.wb_footprints.specs.declared.numbers.Numbers.{Numbers}
 use Rattle.wb_footprints.specs.Blocks.{in_blocks}
 use Rattle.wb_footprints.specs.Groups.{in_groups, is_kept, is_apart, AreAll}
-use Rattle.wb_footprints.specs.Keys.{key_of}
+use Rattle.wb_footprints.specs.Keys.{index_key}
 use Rattle.wb_footprints.specs.Marks.{marked}
-use Rattle.wb_footprints.specs.Points.{Coordinates, in_points}
+use Rattle.wb_cells.specs.declared.values.index.Index.{Index}
+use Rattle.wb_footprints.specs.Indices.{in_indices}
 use Rattle.wb_footprints.specs.Relation.{Sets, IsLeastAfter, JoinedAfter}
 use Rattle.wb_footprints.proofs.InGroups.{Passes, and_both, cut}
-use Rattle.wb_footprints.proofs.InKeys.{among}
+use Rattle.wb_footprints.proofs.InIndices.{among}
 use Rattle.wb_footprints.proofs.Joining.{then_joined, none_joined, joined_like}
 use Rattle.wb_footprints.proofs.Meeting.{any_swap, least_like}
 
@@ -46,18 +47,18 @@ is_less m n l = grind (arith, nat_tests)
 less_by : (m n : ℕ) → nat_lt m n ≡ true → m < n
 less_by m n e = grind (arith, nat_tests)
 
-module _ (reach : ℕ) (homes : Marks ℕ) (k : ℕ) (p : Coordinates) (n : ℕ) where
-  pub kept_parts : is_kept reach homes k p n ≡ true → (k ≤ key_of p) × (key_of p ≤ k + reach) × (0 < k) × (marked nat_cmp homes n k ≡ true)
+module _ (reach : ℕ) (homes : Marks ℕ) (k : ℕ) (p : Index) (n : ℕ) where
+  pub kept_parts : is_kept reach homes k p n ≡ true → (k ≤ index_key p) × (index_key p ≤ k + reach) × (0 < k) × (marked nat_cmp homes n k ≡ true)
   kept_parts e =
-      let halves = and_parts (nat_le k (key_of p) && nat_le (key_of p) (k + reach)) (nat_lt 0 k && marked nat_cmp homes n k) e in
-      let keys = and_parts (nat_le k (key_of p)) (nat_le (key_of p) (k + reach)) halves.0 in
+      let halves = and_parts (nat_le k (index_key p) && nat_le (index_key p) (k + reach)) (nat_lt 0 k && marked nat_cmp homes n k) e in
+      let keys = and_parts (nat_le k (index_key p)) (nat_le (index_key p) (k + reach)) halves.0 in
       let home = and_parts (nat_lt 0 k) (marked nat_cmp homes n k) halves.1 in
-      (at_most k (key_of p) keys.0, at_most (key_of p) (k + reach) keys.1, less_by 0 k home.0, home.1)
+      (at_most k (index_key p) keys.0, at_most (index_key p) (k + reach) keys.1, less_by 0 k home.0, home.1)
 
-  pub kept_by : k ≤ key_of p → key_of p ≤ k + reach → 0 < k → marked nat_cmp homes n k ≡ true → is_kept reach homes k p n ≡ true
+  pub kept_by : k ≤ index_key p → index_key p ≤ k + reach → 0 < k → marked nat_cmp homes n k ≡ true → is_kept reach homes k p n ≡ true
   kept_by low high some home =
-      and_both (nat_le k (key_of p) && nat_le (key_of p) (k + reach)) (nat_lt 0 k && marked nat_cmp homes n k)
-      (and_both (nat_le k (key_of p)) (nat_le (key_of p) (k + reach)) (is_at_most k (key_of p) low) (is_at_most (key_of p) (k + reach) high))
+      and_both (nat_le k (index_key p) && nat_le (index_key p) (k + reach)) (nat_lt 0 k && marked nat_cmp homes n k)
+      (and_both (nat_le k (index_key p)) (nat_le (index_key p) (k + reach)) (is_at_most k (index_key p) low) (is_at_most (index_key p) (k + reach) high))
       (and_both (nat_lt 0 k) (marked nat_cmp homes n k) (is_less 0 k some) home)
 
 same_test : (m n : ℕ) → eq_by_cmp nat_cmp m n ≡ (m == n)
@@ -76,7 +77,7 @@ itself n = grind (arith, nat_tests)
 
 -- with a home more
 pub home_more : (reach : ℕ) (old new : Marks ℕ) (number key : ℕ) → Sets (marked nat_cmp old) (marked nat_cmp new) (eq_by_cmp nat_cmp number) key true →
-    (k : ℕ) (p : Coordinates) (n : ℕ) → is_kept reach old k p n ≡ true → is_kept reach new k p n ≡ true
+    (k : ℕ) (p : Index) (n : ℕ) → is_kept reach old k p n ≡ true → is_kept reach new k p n ≡ true
 home_more reach old new number key s k p n e =
     let parts = kept_parts reach old k p n e in
     kept_by reach new k p n parts.0 parts.1 parts.2 (s.at n k ∙ if_true (eq_by_cmp nat_cmp number n && (key == k)) (marked nat_cmp old n k) parts.3)
@@ -94,7 +95,7 @@ apart_home false b x e = refl
 
 -- with a home less
 pub home_less : (reach : ℕ) (old new : Marks ℕ) (number key : ℕ) → Sets (marked nat_cmp old) (marked nat_cmp new) (eq_by_cmp nat_cmp number) key false →
-    (k : ℕ) (p : Coordinates) (n : ℕ) → cut (is_kept reach old) key number k p n ≡ true → is_kept reach new k p n ≡ true
+    (k : ℕ) (p : Index) (n : ℕ) → cut (is_kept reach old) key number k p n ≡ true → is_kept reach new k p n ≡ true
 home_less reach old new number key s k p n e =
     let halves = and_parts (is_kept reach old k p n) (is_apart key number k n) e in
     let parts = kept_parts reach old k p n halves.0 in
@@ -111,7 +112,7 @@ or_none false b e g = g
 
 -- a number without a home is in no block
 pub homeless : (reach : ℕ) (homes : Marks ℕ) (number : ℕ) → ((k : ℕ) → 0 < k → marked nat_cmp homes number k ≡ false) → (gs : List (ℕ × Blocks)) →
-    AreAll (is_kept reach homes) gs → (p : Coordinates) → in_groups gs p number ≡ false
+    AreAll (is_kept reach homes) gs → (p : Index) → in_groups gs p number ≡ false
 homeless reach homes number none [] a p = refl
 homeless reach homes number none (g ∷ gs) a p = or_none (in_blocks g.1.list.items p number) (in_groups gs p number)
     (not_true (in_blocks g.1.list.items p number) (λ there.
@@ -137,21 +138,21 @@ pub near : (low high reach k key : ℕ) → k ≤ key → key ≤ k + reach → 
 near low high reach k key a b c d = range_contains-from_IsInRange nat_cmp_total (Included (low - reach)) (Included high) k
     (not_above (low - reach) k (omega (arith, b, c)), not_above k high (omega (arith, a, d)))
 
-none_any : (f : Coordinates → Bool) (ps : List Coordinates) → ((p : Coordinates) → in_points ps p ≡ true → f p ≡ false) → list_any f ps ≡ false
+none_any : (f : Index → Bool) (ps : List Index) → ((p : Index) → in_indices ps p ≡ true → f p ≡ false) → list_any f ps ≡ false
 none_any f ps none = not_true (list_any f ps) (λ some.
     let one = Any-from_list_any f ps some in
     true≢false (sym one.4 ∙ none one.1 (among ps one.0 one.1 one.2 one.3)))
 
--- whether a number stands at one of some points by the blocks of a key
-abbrev pub asked : List Coordinates → (ℕ × Blocks) → ℕ → Bool
+-- whether a number stands at one of some indices by the blocks of a key
+abbrev pub asked : List Index → (ℕ × Blocks) → ℕ → Bool
 asked ps g n = list_any (λ p. in_blocks g.1.list.items p n) ps
 
 -- by those of one of some keys
-abbrev pub any_asked : List Coordinates → List (ℕ × Blocks) → ℕ → Bool
+abbrev pub any_asked : List Index → List (ℕ × Blocks) → ℕ → Bool
 any_asked ps gs n = list_any (λ g. asked ps g n) gs
 
-module _ (reach : ℕ) (homes : Marks ℕ) (ps : List Coordinates) (lo hi : Bound ℕ)
-    (all : (p : Coordinates) (k : ℕ) → in_points ps p ≡ true → k ≤ key_of p → key_of p ≤ k + reach → range_contains nat_cmp lo hi k ≡ true) (n : ℕ) where
+module _ (reach : ℕ) (homes : Marks ℕ) (ps : List Index) (lo hi : Bound ℕ)
+    (all : (p : Index) (k : ℕ) → in_indices ps p ≡ true → k ≤ index_key p → index_key p ≤ k + reach → range_contains nat_cmp lo hi k ≡ true) (n : ℕ) where
   far : (g : ℕ × Blocks) → Passes (is_kept reach homes) g.0 g.1 → range_contains nat_cmp lo hi g.0 ≡ false → asked ps g n ≡ false
   far g a out = none_any (λ p. in_blocks g.1.list.items p n) ps (λ p at. not_true (in_blocks g.1.list.items p n) (λ there.
       let parts = kept_parts reach homes g.0 p n (a p n there) in
@@ -219,11 +220,11 @@ gone_all homes number from none before k some = elim (cases_lt from k) [ inl lat
 number_is : (m n : ℕ) → (m == n) ≡ true → m ≡ n
 number_is m n e = grind (arith, nat_tests)
 
-pub emptied : (old new : Coordinates → ℕ → Bool) (number : ℕ) → ((p : Coordinates) (n : ℕ) → (number == n) ≡ false → new p n ≡ old p n) →
-    ((p : Coordinates) → new p number ≡ false) → Sets old new (λ p. true) number false
+pub emptied : (old new : Index → ℕ → Bool) (number : ℕ) → ((p : Index) (n : ℕ) → (number == n) ≡ false → new p n ≡ old p n) →
+    ((p : Index) → new p number ≡ false) → Sets old new (λ p. true) number false
 emptied old new number others gone = record { at = λ p n. by p n (number == n) refl }
   where
-    by : (p : Coordinates) (n : ℕ) (b : Bool) → (number == n) ≡ b → new p n ≡ (if true && b then false else old p n)
+    by : (p : Index) (n : ℕ) (b : Bool) → (number == n) ≡ b → new p n ≡ (if true && b then false else old p n)
     by p n true e = subst (λ (k : ℕ). new p k ≡ false) (number_is number n e) (gone p)
     by p n false e = others p n e
 

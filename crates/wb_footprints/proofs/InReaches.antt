@@ -1,4 +1,4 @@
--- Blocks of several reaches: what is in them after one is set or comes, and what stands at several points.
+-- Blocks of several reaches: what is in them after one is set or comes, and what stands at several indices.
 use Rattle.std.proofs.Common.{◌≡◌, ℕ, ◌+◌, ◌<◌, ◌≤◌, Bool, true, false, ◌&&◌, ◌||◌, ◌==◌, if◌then◌else◌, Option, Some, None}
 use Rattle.std.proofs.Common.{List, [], ◌∷◌, ◌++◌, length, take, set, get_or, suc, zero, refl, sym, ap, subst, ◌∙◌, arith}
 use Rattle.std.specs.List.{list_any}
@@ -7,18 +7,18 @@ use Rattle.std.proofs.lemmas.List.Folds.{list_any-append}
 use Rattle.wb_footprints.specs.declared.numbers.Numbers.{Numbers}
 use Rattle.wb_footprints.specs.declared.reach_marks.ReachMarks.{ReachMarks}
 use Rattle.wb_footprints.specs.Groups.{in_groups}
-use Rattle.wb_footprints.specs.Points.{Coordinates}
+use Rattle.wb_cells.specs.declared.values.index.Index.{Index}
 use Rattle.wb_footprints.specs.Reaches.{in_reaches}
 use Rattle.wb_footprints.specs.Relation.{Sets, IsLeastAfter, JoinedAfter}
 use Rattle.wb_footprints.proofs.InGroups.{within, beside}
 use Rattle.wb_footprints.proofs.Joining.{joined_like, none_joined}
 use Rattle.wb_footprints.proofs.Meeting.{any_swap, least_like}
 
--- whether a number stands at one of some points by a block of one reach
-abbrev pub asked : List Coordinates → ReachMarks → ℕ → Bool
+-- whether a number stands at one of some indices by a block of one reach
+abbrev pub asked : List Index → ReachMarks → ℕ → Bool
 asked ps r n = list_any (λ p. in_groups r.groups.entries p n) ps
 
-pub asked_all : (rs : List ReachMarks) (ps : List Coordinates) (n : ℕ) → list_any (λ p. in_reaches rs p n) ps ≡ list_any (λ r. asked ps r n) rs
+pub asked_all : (rs : List ReachMarks) (ps : List Index) (n : ℕ) → list_any (λ p. in_reaches rs p n) ps ≡ list_any (λ r. asked ps r n) rs
 asked_all rs ps n = any_swap (λ p (r : ReachMarks). in_groups r.groups.entries p n) ps rs
 
 set_more : {X : Type 0} (f : X → Bool) (xs : List X) (i : ℕ) (y d : X) (c : Bool) → i < length xs → f y ≡ (if c then true else f (get_or xs i d)) →
@@ -28,7 +28,7 @@ set_more f (x ∷ xs) zero y d c l h = ap (λ b. b || list_any f xs) h ∙ withi
 set_more f (x ∷ xs) (suc i) y d c l h = ap (λ b. f x || b) (set_more f xs i y d c (omega (arith, l)) h) ∙ beside (f x) c (list_any f xs)
 
 -- the marks of one reach become others
-pub reach_set : (rs : List ReachMarks) (i : ℕ) (old new : ReachMarks) (here : Coordinates → Bool) (number : ℕ) → i < length rs → old ≡ get_or rs i old →
+pub reach_set : (rs : List ReachMarks) (i : ℕ) (old new : ReachMarks) (here : Index → Bool) (number : ℕ) → i < length rs → old ≡ get_or rs i old →
     Sets (in_groups old.groups.entries) (in_groups new.groups.entries) here number true → Sets (in_reaches rs) (in_reaches (set rs i new)) here number true
 reach_set rs i old new here number l is s = record {
   at = λ p n. set_more (λ (r : ReachMarks). in_groups r.groups.entries p n) rs i new old (here p && (number == n)) l
@@ -41,7 +41,7 @@ taken_then true x e = cc
 taken_then false x e = refl
 
 pub reach_less : (rs : List ReachMarks) (i : ℕ) (old new : ReachMarks) (number : ℕ) → i < length rs → old ≡ get_or rs i old →
-    Sets (in_groups old.groups.entries) (in_groups new.groups.entries) (λ p. true) number false → (p : Coordinates) (n : ℕ) → (number == n) ≡ false →
+    Sets (in_groups old.groups.entries) (in_groups new.groups.entries) (λ p. true) number false → (p : Index) (n : ℕ) → (number == n) ≡ false →
     in_reaches (set rs i new) p n ≡ in_reaches rs p n
 reach_less rs i old new number l is s p n other = set_more (λ (r : ReachMarks). in_groups r.groups.entries p n) rs i new old false l
     (s.at p n ∙ taken_then (number == n) (in_groups old.groups.entries p n) other ∙ ap (λ (r : ReachMarks). in_groups r.groups.entries p n) is)
@@ -63,8 +63,8 @@ if_then true x e = refl
 if_then false x e = e
 
 -- a reach comes with its first blocks
-pub reach_more : (rs : List ReachMarks) (fresh new : ReachMarks) (here : Coordinates → Bool) (number : ℕ) →
-    ((p : Coordinates) (n : ℕ) → in_groups fresh.groups.entries p n ≡ false) → Sets (in_groups fresh.groups.entries) (in_groups new.groups.entries) here number true →
+pub reach_more : (rs : List ReachMarks) (fresh new : ReachMarks) (here : Index → Bool) (number : ℕ) →
+    ((p : Index) (n : ℕ) → in_groups fresh.groups.entries p n ≡ false) → Sets (in_groups fresh.groups.entries) (in_groups new.groups.entries) here number true →
     Sets (in_reaches rs) (in_reaches (rs ++ new ∷ [])) here number true
 reach_more rs fresh new here number none s = record {
   at = λ p n.
@@ -77,5 +77,5 @@ same_where : (f g x : Bool) → f ≡ g → (if f then true else x) ≡ (if g th
 same_where f g x e = ap (λ b. if b then true else x) e
 
 -- no point, no number
-pub none_asked : (rs : List ReachMarks) (ps : List Coordinates) (n : ℕ) → length ps ≡ 0 → list_any (λ p. in_reaches rs p n) ps ≡ false
+pub none_asked : (rs : List ReachMarks) (ps : List Index) (n : ℕ) → length ps ≡ 0 → list_any (λ p. in_reaches rs p n) ps ≡ false
 none_asked rs ps n e = ap (list_any (λ p. in_reaches rs p n)) (nil_from_length ps e)

@@ -1,8 +1,11 @@
 -- Numbers that come into a set: one after another, and pass by pass.
 use Rattle.std.proofs.Common.{◌≡◌, ℕ, ◌+◌, ◌-◌, ◌<◌, ◌≤◌, ◌==◌, Bool, true, false, true≢false, ◌&&◌, ◌||◌, if◌then◌else◌, ◌⊎◌, inl, inr, Option, Some, None}
 use Rattle.std.proofs.Common.{List, [], ◌∷◌, ◌++◌, length, take, get_or, refl, sym, ap, subst, ◌∙◌, arith}
+use Rattle.std.specs.Cmp.{IsTotalOrder}
+use Rattle.std.specs.FinMap.{IsAntisymmetric}
 use Rattle.std.specs.List.{list_any}
 use Rattle.std.specs.List.Sorted.{IsStrictlySortedBy}
+use Rattle.std.specs.declared.cmp.Ordering.{Ordering}
 use Rattle.std.specs.declared.cmp.Ordering.TheVariants.{Less}
 use Rattle.std.proofs.lemmas.Bool.{cases_lt}
 use Rattle.std.proofs.lemmas.List.{take_all, get_or_default}
@@ -15,7 +18,6 @@ use Rattle.wb_cells.specs.Runs.{changes_in, all_changes}
 use Rattle.wb_footprints.specs.declared.numbers.Numbers.{Numbers}
 use Rattle.wb_footprints.specs.Numbers.{numbered}
 use Rattle.wb_footprints.specs.Marks.{pair_cmp}
-use Rattle.wb_footprints.specs.Points.{Coordinates, point_cmp}
 use Rattle.wb_footprints.specs.Relation.{IsLeastAfter, JoinedAfter, AreAllAfter}
 use Rattle.wb_footprints.proofs.Added.{added_here, added_stays, added_from}
 use Rattle.wb_footprints.proofs.AtMarks.{any_past, pair_less, pair_up}
@@ -169,12 +171,12 @@ module _ (f : Change Cell Value → ℕ → Bool) (after : ℕ) (old : Numbers) 
   runs_joined new i l h = joined_like old new (λ n. list_any (λ x. f x n) (all_changes (take i rs))) (λ n. list_any (λ x. f x n) (all_changes rs)) after
       (λ n. ap (λ ss. list_any (λ x. f x n) (all_changes ss)) (sym (take_all i rs l))) h
 
--- ---- from point to point
+-- ---- from key to key
 
-module _ (f : Coordinates → ℕ → Bool) (after : ℕ) where
-  -- one point, and those behind it at which nothing stands
-  pub walked : (old now new : Numbers) (ps : List Coordinates) (at j : ℕ) (p : Coordinates) → at < length ps → p ≡ get_or ps at p → at < j → j ≤ length ps →
-      ((i n : ℕ) (d : Coordinates) → at < i → i < j → after < n → f (get_or ps i d) n ≡ false) →
+module _ {K : Type 0} (cmp : K → K → Ordering) (total : IsTotalOrder cmp) (exact : IsAntisymmetric cmp) (f : K → ℕ → Bool) (after : ℕ) where
+  -- one key, and those behind it at which nothing stands
+  pub walked : (old now new : Numbers) (ps : List K) (at j : ℕ) (p : K) → at < length ps → p ≡ get_or ps at p → at < j → j ≤ length ps →
+      ((i n : ℕ) (d : K) → at < i → i < j → after < n → f (get_or ps i d) n ≡ false) →
       JoinedAfter old now (λ n. list_any (λ q. f q n) (take at ps)) after → JoinedAfter now new (f p) after →
       JoinedAfter old new (λ n. list_any (λ q. f q n) (take j ps)) after
   walked old now new ps at j p l is low high none h g =
@@ -185,27 +187,27 @@ module _ (f : Coordinates → ℕ → Bool) (after : ℕ) where
       (joined_above old new (λ n. list_any (λ q. f q n) (take (at + 1) ps)) (λ n. list_any (λ q. f q n) (take ((at + 1) + (j - (at + 1))) ps)) after
       (λ n up. any_past (λ q. f q n) ps p (at + 1) (j - (at + 1)) (omega arith) (λ i from to. none i n p (omega arith) (omega arith) up)) more)
 
-  -- nothing stands between a point and the first mark behind it
-  pub none_between : (ps : List Coordinates) (at j : ℕ) (p k : Coordinates) (number : ℕ) → IsStrictlySortedBy point_cmp ps → at < length ps →
+  -- nothing stands between a key and the first mark behind it
+  pub none_between : (ps : List K) (at j : ℕ) (p k : K) (number : ℕ) → IsStrictlySortedBy cmp ps → at < length ps →
       p ≡ get_or ps at p → j ≤ length ps →
-      ((q : Coordinates) (n : ℕ) → pair_cmp point_cmp (p, after) (q, n) ≡ Less → pair_cmp point_cmp (q, n) (k, number) ≡ Less → f q n ≡ false) →
-      ((i : ℕ) (d : Coordinates) → at + 1 ≤ i → i < j → point_cmp (get_or ps i d) k ≡ Less) →
-      (i n : ℕ) (d : Coordinates) → at < i → i < j → after < n → f (get_or ps i d) n ≡ false
+      ((q : K) (n : ℕ) → pair_cmp cmp (p, after) (q, n) ≡ Less → pair_cmp cmp (q, n) (k, number) ≡ Less → f q n ≡ false) →
+      ((i : ℕ) (d : K) → at + 1 ≤ i → i < j → cmp (get_or ps i d) k ≡ Less) →
+      (i n : ℕ) (d : K) → at < i → i < j → after < n → f (get_or ps i d) n ≡ false
   none_between ps at j p k number s l is high none below i n d low up above =
       none (get_or ps i d) n
-      (subst (λ (q : Coordinates). pair_cmp point_cmp (q, after) (get_or ps i d, n) ≡ Less) (sym (is ∙ get_or_default ps at p d l))
-      (pair_up ps at i d after n s (omega arith) (omega arith) above))
-      (pair_less (get_or ps i d) k n number (below i d (omega arith) up))
+      (subst (λ (q : K). pair_cmp cmp (q, after) (get_or ps i d, n) ≡ Less) (sym (is ∙ get_or_default ps at p d l))
+      (pair_up cmp total exact ps at i d after n s (omega arith) (omega arith) above))
+      (pair_less cmp total exact (get_or ps i d) k n number (below i d (omega arith) up))
 
   -- nothing stands behind the last mark
-  pub none_after : (ps : List Coordinates) (at j : ℕ) (p : Coordinates) → IsStrictlySortedBy point_cmp ps → at < length ps → p ≡ get_or ps at p →
+  pub none_after : (ps : List K) (at j : ℕ) (p : K) → IsStrictlySortedBy cmp ps → at < length ps → p ≡ get_or ps at p →
       j ≤ length ps →
-      ((q : Coordinates) (n : ℕ) → pair_cmp point_cmp (p, after) (q, n) ≡ Less → f q n ≡ false) →
-      (i n : ℕ) (d : Coordinates) → at < i → i < j → after < n → f (get_or ps i d) n ≡ false
+      ((q : K) (n : ℕ) → pair_cmp cmp (p, after) (q, n) ≡ Less → f q n ≡ false) →
+      (i n : ℕ) (d : K) → at < i → i < j → after < n → f (get_or ps i d) n ≡ false
   none_after ps at j p s l is high none i n d low up above =
       none (get_or ps i d) n
-      (subst (λ (q : Coordinates). pair_cmp point_cmp (q, after) (get_or ps i d, n) ≡ Less) (sym (is ∙ get_or_default ps at p d l))
-      (pair_up ps at i d after n s (omega arith) (omega arith) above))
+      (subst (λ (q : K). pair_cmp cmp (q, after) (get_or ps i d, n) ≡ Less) (sym (is ∙ get_or_default ps at p d l))
+      (pair_up cmp total exact ps at i d after n s (omega arith) (omega arith) above))
 
 -- ---- into an empty set
 

@@ -29,3 +29,8 @@ pub mod InGroups
 pub mod InKeys
 pub mod InReach
 pub mod InReaches
+pub mod InTexts
+pub mod InIndices
+pub mod InLabels
+pub mod Merging
+pub mod AtLabels

@@ -8,16 +8,15 @@ use Rattle.selective_undo.specs.declared.Change.{Change}
 use Rattle.wb_cells.specs.declared.cells.cell.Cell.{Cell}
 use Rattle.wb_cells.specs.declared.cells.value.Value.{Value}
 use Rattle.wb_cells.specs.declared.changes.row.Row.{Row}
-use Rattle.wb_cells.specs.declared.values.index.Index.TheVariants.{Point}
+use Rattle.wb_cells.specs.declared.values.index.Index.TheVariants.{Point, Text}
 use Rattle.wb_cells.specs.Cells.{Name, Changes}
-use Rattle.wb_cells.specs.Runs.{cell_of, packed_changes, in_first}
-use Rattle.wb_rect.specs.Product.{product}
+use Rattle.wb_cells.specs.Runs.{cell_of, packed_changes, labelled_changes, in_first}
 use Rattle.wb_footprints.specs.declared.marking.Marking.{Marking}
 use Rattle.wb_footprints.specs.declared.part.Kind.{Kind}
 use Rattle.wb_footprints.specs.declared.part.Kind.TheVariants as k
 use Rattle.wb_footprints.specs.declared.place.Place.{Place}
 use Rattle.wb_footprints.specs.Relation.{Clears}
-use Rattle.wb_footprints.specs.Points.{Coordinates}
+use Rattle.wb_cells.specs.declared.values.index.Index.{Index}
 use Rattle.wb_footprints.specs.Places.{family, cell_at}
 use Rattle.wb_footprints.specs.Footprints.{at_cell, marked_at, cells_of, run_cells}
 use Rattle.wb_footprints.specs.Rows.{AreOfRow, AreAt}
@@ -28,36 +27,43 @@ use Rattle.wb_footprints.proofs.RunPlaces.{any_cell}
 
 -- ---- which cells they are
 
-pub packed_cells : (row : Row) (kind : Kind) (name : Name) → ((p : Coordinates) → cell_at kind name p ≡ cell_of row (Point p)) →
-    (es : List (List ℤ × Option ℤ)) → cells_of (packed_changes row es) ≡ run_cells kind name (map (λ e. e.0) es)
+pub packed_cells : (row : Row) (kind : Kind) (name : Name) → ((x : Index) → cell_at kind name x ≡ cell_of row x) →
+    (es : List (List ℤ × Option ℤ)) → cells_of (packed_changes row es) ≡ run_cells kind name (map Point (map (λ e. e.0) es))
 packed_cells row kind name h [] = refl
 packed_cells row kind name h (e ∷ es) =
-    ap (λ c. c ∷ cells_of (packed_changes row es)) (sym (h e.0)) ∙ ap (λ cs. cell_at kind name e.0 ∷ cs) (packed_cells row kind name h es)
+    ap (λ c. c ∷ cells_of (packed_changes row es)) (sym (h (Point e.0))) ∙ ap (λ cs. cell_at kind name (Point e.0) ∷ cs) (packed_cells row kind name h es)
 
--- where changes are at the indices of a rectangle, and points are those, the cells are at the points
-pub cells_at : (row : Row) (kind : Kind) (name : Name) → ((p : Coordinates) → cell_at kind name p ≡ cell_of row (Point p)) →
-    (es : List (List ℤ × Option ℤ)) (rs : List (List ℤ)) (ps : List Coordinates) → map (λ e. e.0) es ≡ product rs →
-    ((f : Coordinates → Bool) → list_any f ps ≡ list_any f (product rs)) → AreAt kind name ps (packed_changes row es)
-cells_at row kind name h es rs ps firsts points = λ f.
+pub labelled_cells : (row : Row) (kind : Kind) (name : Name) → ((x : Index) → cell_at kind name x ≡ cell_of row x) →
+    (es : List (List ℕ × Option ℤ)) → cells_of (labelled_changes row es) ≡ run_cells kind name (map Text (map (λ e. e.0) es))
+labelled_cells row kind name h [] = refl
+labelled_cells row kind name h (e ∷ es) =
+    ap (λ c. c ∷ cells_of (labelled_changes row es)) (sym (h (Text e.0))) ∙ ap (λ cs. cell_at kind name (Text e.0) ∷ cs) (labelled_cells row kind name h es)
+
+-- where cells are at some indices, and a test finds one of these where it finds one of others, the cells are at the others
+pub cells_at : {X : Type 0} (xs : Changes) (kind : Kind) (name : Name) (make : X → Index) (from to : List X) → cells_of xs ≡ run_cells kind name (map make from) →
+    ((f : X → Bool) → list_any f to ≡ list_any f from) → AreAt kind name (map make to) xs
+cells_at xs kind name make from to is alike = λ f.
     let at = cell_at kind name in
-    ap (list_any f) (packed_cells row kind name h es ∙ ap (run_cells kind name) firsts)
-    ∙ any_map f at (product rs)
-    ∙ sym (points (λ p. f (at p)))
-    ∙ sym (any_map f at ps)
+    ap (list_any f) is
+    ∙ any_map f at (map make from)
+    ∙ any_map (λ x. f (at x)) make from
+    ∙ sym (alike (λ x. f (at (make x))))
+    ∙ sym (any_map (λ x. f (at x)) make to)
+    ∙ sym (any_map f at (map make to))
 
-pub firsts_of_rectangle : (n : Option ℤ) (ps : List Coordinates) → map (λ (e : List ℤ × Option ℤ). e.0) (map (λ p. (p, n)) ps) ≡ ps
+pub firsts_of_rectangle : (n : Option ℤ) (ps : List (List ℤ)) → map (λ (e : List ℤ × Option ℤ). e.0) (map (λ p. (p, n)) ps) ≡ ps
 firsts_of_rectangle n [] = refl
 firsts_of_rectangle n (p ∷ ps) = ap (λ qs. p ∷ qs) (firsts_of_rectangle n ps)
 
 -- ---- taking a number away
 
-one_family : (kind : Kind) (d : Name) (p q : Coordinates) → family (cell_at kind d p) ≡ family (cell_at kind d q)
+one_family : (kind : Kind) (d : Name) (p q : Index) → family (cell_at kind d p) ≡ family (cell_at kind d q)
 one_family k.Inside d p q = refl
 one_family k.Members d p q = refl
 one_family k.Elements d p q = refl
 
-first_in : (kind : Kind) (d : Name) (xs : Changes) (ps : List Coordinates) (y : Change Cell Value) → cells_of xs ≡ run_cells kind d ps → 0 < length xs →
-    (p : Coordinates) → family (cell_at kind d p) ≡ family (get_or xs 0 y).cell
+first_in : (kind : Kind) (d : Name) (xs : Changes) (ps : List Index) (y : Change Cell Value) → cells_of xs ≡ run_cells kind d ps → 0 < length xs →
+    (p : Index) → family (cell_at kind d p) ≡ family (get_or xs 0 y).cell
 first_in kind d [] ps y e some p = absurd (omega arith)
 first_in kind d (x ∷ xs) [] y e some p = cc
 first_in kind d (x ∷ xs) (q ∷ ps) y e some p =
@@ -66,7 +72,7 @@ first_in kind d (x ∷ xs) (q ∷ ps) y e some p =
 
 -- the family of the first is that of all
 pub first_family : (kind : Kind) (d : Name) (xs : Changes) → AreOfRow kind d xs → (x : Cell) → ((y : Change Cell Value) → x ≡ (get_or xs 0 y).cell) →
-    0 < length xs → (p : Coordinates) → family (cell_at kind d p) ≡ family x
+    0 < length xs → (p : Index) → family (cell_at kind d p) ≡ family x
 first_family kind d xs h x e some p =
     let y : Change Cell Value = record { cell = x; value = None } in
     first_in kind d xs h.0 y h.1 some p ∙ ap family (sym (e y))
@@ -78,7 +84,7 @@ any_gone f P h (x ∷ xs) e = either (f x) (list_any f xs) P (h x) (any_gone f P
 module _ (o n : Place → ℕ → Bool) (number : ℕ) where
   -- a number that stands at no cell of the row any more
   pub row_cleared : (by : Marking) (kind : Kind) (d : Name) (xs : Changes) (x : Cell) → AreOfRow kind d xs → Clears o n (at_cell by x) number →
-      ((p : Coordinates) (q : Place) → at_cell by (cell_at kind d p) q ≡ true → n q number ≡ false) → Clears o n (marked_at by xs) number
+      ((p : Index) (q : Place) → at_cell by (cell_at kind d p) q ≡ true → n q number ≡ false) → Clears o n (marked_at by xs) number
   row_cleared by kind d xs x h g clear = record {
     gone = λ q here. any_gone (λ p. at_cell by (cell_at kind d p) q) (n q number ≡ false) (λ p. clear p q) h.0
         (sym (any_cell (λ c. at_cell by c q) xs kind d h.0 (λ f. ap (list_any f) h.1)) ∙ here);

@@ -12,7 +12,7 @@ use Rattle.wb_footprints.specs.declared.part.Part.TheVariants as part
 use Rattle.wb_footprints.specs.declared.place.Place.{Place}
 use Rattle.wb_footprints.specs.declared.place.Place.TheVariants.{Objects, Of}
 use Rattle.wb_footprints.specs.Relation.{Sets, Stays}
-use Rattle.wb_footprints.specs.Points.{Coordinates}
+use Rattle.wb_cells.specs.declared.values.index.Index.{Index}
 use Rattle.wb_footprints.specs.Parts.{part_at, is_same_part, in_run}
 use Rattle.wb_footprints.specs.Places.{own, is_same_place, cell_at, in_places}
 use Rattle.wb_footprints.specs.declared.marking.Marking.{Marking}
@@ -25,8 +25,8 @@ or_false : (a : Bool) → a || false ≡ a
 or_false true = refl
 or_false false = refl
 
--- what holds of one of the cells holds of one at one of the points
-pub any_cell : (f : Cell → Bool) (xs : Changes) (kind : Kind) (name : Name) (ps : List Coordinates) → AreAt kind name ps xs →
+-- what holds of one of the cells holds of one at one of the indices
+pub any_cell : (f : Cell → Bool) (xs : Changes) (kind : Kind) (name : Name) (ps : List Index) → AreAt kind name ps xs →
     list_any (λ x. f x.cell) xs ≡ list_any (λ p. f (cell_at kind name p)) ps
 any_cell f xs kind name ps e = sym (any_map f (λ x. x.cell) xs) ∙ e f ∙ any_map f (cell_at kind name) ps
 
@@ -34,7 +34,7 @@ and_each : {X : Type 0} (c : Bool) (f : X → Bool) (xs : List X) → list_any (
 and_each true f xs = refl
 and_each false f xs = any_none xs
 
-parts_in : (kind : Kind) (ps : List Coordinates) (x : Part) → list_any (λ p. is_same_part (part_at kind p) x) ps ≡ in_run kind ps x
+parts_in : (kind : Kind) (ps : List Index) (x : Part) → list_any (λ p. is_same_part (part_at kind p) x) ps ≡ in_run kind ps x
 parts_in k.Inside ps (part.In j) = refl
 parts_in k.Inside ps (part.Slot s) = any_none ps
 parts_in k.Inside ps (part.Member j) = any_none ps
@@ -51,16 +51,16 @@ parts_in k.Elements ps (part.Member j) = any_none ps
 parts_in k.Elements ps (part.User u) = any_none ps
 parts_in k.Elements ps (part.Element j) = refl
 
-pub own_at : (kind : Kind) (d : Name) (p : Coordinates) → own (cell_at kind d p) ≡ Of d (part_at kind p)
+pub own_at : (kind : Kind) (d : Name) (p : Index) → own (cell_at kind d p) ≡ Of d (part_at kind p)
 own_at k.Inside d p = refl
 own_at k.Members d p = refl
 own_at k.Elements d p = refl
 
-places_in : (d : Name) (kind : Kind) (ps : List Coordinates) (q : Place) → list_any (λ p. is_same_place (Of d (part_at kind p)) q) ps ≡ in_places d kind ps q
+places_in : (d : Name) (kind : Kind) (ps : List Index) (q : Place) → list_any (λ p. is_same_place (Of d (part_at kind p)) q) ps ≡ in_places d kind ps q
 places_in d kind ps Objects = any_none ps
 places_in d kind ps (Of e x) = and_each (is_same_name d e) (λ p. is_same_part (part_at kind p) x) ps ∙ ap (λ b. is_same_name d e && b) (parts_in kind ps x)
 
-owns_in : (d : Name) (kind : Kind) (ps : List Coordinates) (q : Place) → list_any (λ p. is_same_place (own (cell_at kind d p)) q) ps ≡ in_places d kind ps q
+owns_in : (d : Name) (kind : Kind) (ps : List Index) (q : Place) → list_any (λ p. is_same_place (own (cell_at kind d p)) q) ps ≡ in_places d kind ps q
 owns_in d kind ps q = any_like (λ p. is_same_place (own (cell_at kind d p)) q) (λ p. is_same_place (Of d (part_at kind p)) q) ps
     (λ p. ap (λ o. is_same_place o q) (own_at kind d p)) ∙ places_in d kind ps q
 
@@ -72,7 +72,7 @@ always b [] l = let no : ⊥ = omega arith in absurd no
 always true (x ∷ xs) l = refl
 always false (x ∷ xs) l = any_none xs
 
-pub run_is : (m : Marking) (d : Name) (kind : Kind) (ps : List Coordinates) (o : Option Place) → ((p : Coordinates) → o ≡ family_by m (cell_at kind d p)) →
+pub run_is : (m : Marking) (d : Name) (kind : Kind) (ps : List Index) (o : Option Place) → ((p : Index) → o ≡ family_by m (cell_at kind d p)) →
     0 < length ps → (q : Place) → run_marked m kind d ps q ≡ (in_places d kind ps q || at_family o q)
 run_is m d kind ps o h some q =
     any_or (λ p. is_same_place (own (cell_at kind d p)) q) (λ p. at_family (family_by m (cell_at kind d p)) q) ps
@@ -83,14 +83,14 @@ run_is m d kind ps o h some q =
 -- ---- marks of a run
 
 module _ (by : Marking) (o m n : Place → ℕ → Bool) (number : ℕ) where
-  module _ (d : Name) (kind : Kind) (ps : List Coordinates) (xs : Changes) (some : 0 < length ps) (t : (q : Place) →
+  module _ (d : Name) (kind : Kind) (ps : List Index) (xs : Changes) (some : 0 < length ps) (t : (q : Place) →
       marked_at by xs q ≡ run_marked by kind d ps q)
       (h : Sets o m (in_places d kind ps) number true) where
-    pub row_alone : ((p : Coordinates) → None ≡ family_by by (cell_at kind d p)) → Sets o m (marked_at by xs) number true
+    pub row_alone : ((p : Index) → None ≡ family_by by (cell_at kind d p)) → Sets o m (marked_at by xs) number true
     row_alone fam = like o m (in_places d kind ps) (marked_at by xs) number true
         (λ q. sym (t q ∙ run_is by d kind ps None fam some q ∙ or_false (in_places d kind ps q))) h
 
-    module _ (f : Place) (fam : (p : Coordinates) → Some f ≡ family_by by (cell_at kind d p)) where
+    module _ (f : Place) (fam : (p : Index) → Some f ≡ family_by by (cell_at kind d p)) where
       whole : (q : Place) → (in_places d kind ps q || is_same_place f q) ≡ marked_at by xs q
       whole q = sym (t q ∙ run_is by d kind ps (Some f) fam some q)
 

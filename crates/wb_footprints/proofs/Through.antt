@@ -16,7 +16,7 @@ use Rattle.wb_footprints.specs.declared.runs.Run.{Run}
 use Rattle.wb_footprints.specs.declared.swept.SweptCells.{SweptCells}
 use Rattle.wb_footprints.specs.Numbers.{numbered}
 use Rattle.wb_footprints.specs.Marks.{marked}
-use Rattle.wb_footprints.specs.Points.{Coordinates}
+use Rattle.wb_cells.specs.declared.values.index.Index.{Index}
 use Rattle.wb_footprints.specs.Places.{cell_at}
 use Rattle.wb_footprints.specs.Footprints.{marked_own, marked_family}
 use Rattle.wb_footprints.specs.Relation.{Sets, JoinedAfter}
@@ -90,18 +90,18 @@ asked_more m s t w v after c h joined sets same runs = record {
 
 -- ---- runs kept whole
 
--- runs are one where their cells are of one row and at the same points
-pub same_run : (a b : Run) → a.row.name ≡ b.row.name → a.row.kind ≡ b.row.kind → a.points ≡ b.points → a ≡ b
-same_run a b name kind points = λ i. record { row = record { name = name i; kind = kind i }; points = points i }
+-- runs are one where their cells are of one row and at the same indices
+pub same_run : (a b : Run) → a.row.name ≡ b.row.name → a.row.kind ≡ b.row.kind → a.indices ≡ b.indices → a ≡ b
+same_run a b name kind indices = λ i. record { row = record { name = name i; kind = kind i }; indices = indices i }
 
-pub point_there : (f : Coordinates → Bool) (ps : List Coordinates) (p : Coordinates) → Contains ps p → f p ≡ true → list_any f ps ≡ true
+pub point_there : (f : Index → Bool) (ps : List Index) (p : Index) → Contains ps p → f p ≡ true → list_any f ps ≡ true
 point_there f ps p h e = list_any_at f ps h.0 p h.1 (ap f h.2 ∙ e)
 
 -- those at the cells of a run that is kept wait
 pub run_waits : (m : FootIndex) (s : SweptCells) (w : Numbers) (after : ℕ) (run : Run) → AreSwept m s w after → Contains s.runs.items run →
-    AreWaiting m run.row.kind run.row.name run.points w after
+    AreWaiting m run.row.kind run.row.name run.indices w after
 run_waits m s w after run h kept n up met =
-    let one = Any-from_list_any (λ p. marked_own m (cell_at run.row.kind run.row.name p) n) run.points met in
+    let one = Any-from_list_any (λ p. marked_own m (cell_at run.row.kind run.row.name p) n) run.indices met in
     h.cells (cell_at run.row.kind run.row.name one.1) 0 n (inr (run, kept, (one.1, (one.0, one.2, one.3), refl))) up one.4
 
 in_behind : {X : Type 0} (xs : List X) (y x : X) → Contains (xs ++ y ∷ []) x → Contains xs x ⊎ (x ≡ y)
@@ -115,7 +115,7 @@ in_behind (z ∷ zs) y x (suc k, l, e) = elim (in_behind zs y x (k, omega (arith
 
 -- one run more of which all wait
 pub kept_more : (m : FootIndex) (s t : SweptCells) (w : Numbers) (after : ℕ) (run : Run) → AreSwept m s w after →
-    AreWaiting m run.row.kind run.row.name run.points w after → t.cells ≡ s.cells → t.families ≡ s.families → t.runs.items ≡ s.runs.items ++ run ∷ [] →
+    AreWaiting m run.row.kind run.row.name run.indices w after → t.cells ≡ s.cells → t.families ≡ s.families → t.runs.items ≡ s.runs.items ++ run ∷ [] →
     AreSwept m t w after
 kept_more m s t w after run h waits cells families runs = record {
   cells = λ c k n is up met. by c k n up met is;
@@ -123,24 +123,24 @@ kept_more m s t w after run h waits cells families runs = record {
 }
   where
     own : (c : Cell) (k n : ℕ) → after < n → marked_own m c n ≡ true → (r : Run) → (Contains s.runs.items r ⊎ (r ≡ run)) →
-        ((p : Coordinates) × Contains r.points p × (c ≡ cell_at r.row.kind r.row.name p)) → numbered w n ≡ true
+        ((p : Index) × Contains r.indices p × (c ≡ cell_at r.row.kind r.row.name p)) → numbered w n ≡ true
     own c k n up met r (inl had) g = h.cells c k n (inr (r, had, g)) up met
     own c k n up met r (inr same) g =
-        let there = subst (λ (x : Run). (p : Coordinates) × Contains x.points p × (c ≡ cell_at x.row.kind x.row.name p)) same g in
-        waits n up (point_there (λ p. marked_own m (cell_at run.row.kind run.row.name p) n) run.points there.0 there.1
+        let there = subst (λ (x : Run). (p : Index) × Contains x.indices p × (c ≡ cell_at x.row.kind x.row.name p)) same g in
+        waits n up (point_there (λ p. marked_own m (cell_at run.row.kind run.row.name p) n) run.indices there.0 there.1
         (ap (λ x. marked_own m x n) (sym there.2) ∙ met))
 
     by : (c : Cell) (k n : ℕ) → after < n → marked_own m c n ≡ true → IsGone t c k → numbered w n ≡ true
     by c k n up met (inl is) = h.cells c k n (inl (sym (ap (λ x. marked cell_cmp x c k) cells) ∙ is)) up met
     by c k n up met (inr g) = own c k n up met g.0 (in_behind s.runs.items run g.0 (subst (λ (xs : List Run). Contains xs g.0) runs g.1)) g.2
 
--- ---- the points of a run
+-- ---- the indices of a run
 
 pub any_here : {X : Type 0} (f : X → Bool) (xs : List X) (i : ℕ) (d : X) → i < length xs → f (get_or xs i d) ≡ true → list_any f xs ≡ true
 any_here f xs i d low is = any_in_front f xs (i + 1) (list_any_more f xs i d low ∙ or_last (list_any f (take i xs)) (f (get_or xs i d)) is)
 
--- one point more of those of which all wait
-pub run_more : (m : FootIndex) (s t : SweptCells) (w : Numbers) (after : ℕ) (kind : Kind) (name : Name) (ps : List Coordinates) (i : ℕ) (p : Coordinates) (c : Cell) →
+-- one index more of those of which all wait
+pub run_more : (m : FootIndex) (s t : SweptCells) (w : Numbers) (after : ℕ) (kind : Kind) (name : Name) (ps : List Index) (i : ℕ) (p : Index) (c : Cell) →
     AreSwept m s w after → AreWaiting m kind name ps w after → i < length ps → p ≡ get_or ps i p → c ≡ cell_at kind name p →
     Sets (marked cell_cmp s.cells) (marked cell_cmp t.cells) (eq_by_cmp cell_cmp c) 1 true → t.runs ≡ s.runs → t.families ≡ s.families → AreSwept m t w after
 run_more m s t w after kind name ps i p c h waits low is at sets runs same =
@@ -153,9 +153,9 @@ not_true : (b : Bool) → (b ≡ true → ⊥) → b ≡ false
 not_true true never = absurd (never refl)
 not_true false never = refl
 
--- those of the new points join, and those of the others wait already
-pub new_joined : (m : FootIndex) (s : SweptCells) (w v : Numbers) (after : ℕ) (kind : Kind) (name : Name) (fresh ps : List Coordinates) →
-    AreSwept m s w after → ((f : Coordinates → Bool) → FailsBehind s kind name f → list_any f fresh ≡ list_any f ps) →
+-- those of the new indices join, and those of the others wait already
+pub new_joined : (m : FootIndex) (s : SweptCells) (w v : Numbers) (after : ℕ) (kind : Kind) (name : Name) (fresh ps : List Index) →
+    AreSwept m s w after → ((f : Index → Bool) → FailsBehind s kind name f → list_any f fresh ≡ list_any f ps) →
     JoinedAfter w v (λ n. list_any (λ p. marked_own m (cell_at kind name p) n) fresh) after →
     JoinedAfter w v (λ n. list_any (λ p. marked_own m (cell_at kind name p) n) ps) after
 new_joined m s w v after kind name fresh ps h is joined = record {
@@ -180,16 +180,16 @@ new_joined m s w v after kind name fresh ps h is joined = record {
     come n up met true e = joined.stay n e
     come n up met false e = joined.all n up (is (λ p. marked_own m (cell_at kind name p) n) (fails n up e) ∙ met)
 
--- ---- new points
+-- ---- new indices
 
 or_nothing : (b : Bool) → b ≡ (b || false)
 or_nothing true = refl
 or_nothing false = refl
 
--- a point at which the test fails is left out
-pub none_new : (f : Coordinates → Bool) (ps : List Coordinates) (p : Coordinates) → f p ≡ false → list_any f ps ≡ (list_any f ps || f p)
+-- one at which the test fails is left out
+pub none_new : {X : Type 0} (f : X → Bool) (ps : List X) (p : X) → f p ≡ false → list_any f ps ≡ (list_any f ps || f p)
 none_new f ps p e = or_nothing (list_any f ps) ∙ ap (λ b. list_any f ps || b) (sym e)
 
--- a point comes last
-pub one_new : (f : Coordinates → Bool) (ps qs : List Coordinates) (p : Coordinates) → qs ≡ ps ++ p ∷ [] → list_any f qs ≡ (list_any f ps || f p)
+-- one comes last
+pub one_new : {X : Type 0} (f : X → Bool) (ps qs : List X) (p : X) → qs ≡ ps ++ p ∷ [] → list_any f qs ≡ (list_any f ps || f p)
 one_new f ps qs p e = ap (list_any f) e ∙ list_any-append f ps (p ∷ []) ∙ ap (λ b. list_any f ps || b) (sym (or_nothing (f p)))

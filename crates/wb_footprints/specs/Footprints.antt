@@ -15,7 +15,7 @@ use Rattle.wb_footprints.specs.declared.place_marks.PlaceMarks.{PlaceMarks}
 use Rattle.wb_footprints.specs.declared.part.Kind.{Kind}
 use Rattle.wb_footprints.specs.declared.marking.Marking.{Marking}
 use Rattle.wb_footprints.specs.declared.marking.Marking.TheVariants.{Own, Families}
-use Rattle.wb_footprints.specs.Points.{Coordinates}
+use Rattle.wb_cells.specs.declared.values.index.Index.{Index}
 use Rattle.wb_footprints.specs.Places.{own, family, place_of, is_same_place, place_marked, cell_at}
 
 -- what edits read and touched, by their numbers; some numbers have no footprint
@@ -39,12 +39,12 @@ marked_at m xs q = list_any (λ x. at_cell m x.cell q) xs
 abbrev pub cells_of : Changes → List Cell
 cells_of xs = map (λ x. x.cell) xs
 
--- the cells of one kind of one object at some points
-abbrev pub run_cells : Kind → Name → List Coordinates → List Cell
+-- the cells of one kind of one object at some indices
+abbrev pub run_cells : Kind → Name → List Index → List Cell
 run_cells k d ps = map (cell_at k d) ps
 
--- whether one of the cells of one kind of one object at some points is marked at a place
-abbrev pub run_marked : Marking → Kind → Name → List Coordinates → Place → Bool
+-- whether one of the cells of one kind of one object at some indices is marked at a place
+abbrev pub run_marked : Marking → Kind → Name → List Index → Place → Bool
 run_marked m k d ps q = list_any (λ p. at_cell m (cell_at k d p) q) ps
 
 -- whether changes touch a place: that of a cell, or of its family
@@ -57,7 +57,7 @@ read_at rs q = list_any (λ r. is_same_place (place_of r) q) rs
 
 -- a number stands at no place at which such a cell is marked
 abbrev pub IsUnmarked : Marking → Kind → Name → PlaceMarks → ℕ → Type 0
-IsUnmarked m k d marks n = (p : Coordinates) (q : Place) → at_cell m (cell_at k d p) q ≡ true → place_marked marks q n ≡ false
+IsUnmarked m k d marks n = (p : Index) (q : Place) → at_cell m (cell_at k d p) q ≡ true → place_marked marks q n ≡ false
 
 -- whether a footprint, where there is one, touched a place
 abbrev pub touched_by : Option (Footprint workbook) → Place → Bool

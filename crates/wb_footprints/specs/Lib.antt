@@ -4,6 +4,11 @@ pub mod Marks
 pub mod Slots
 pub mod Points
 pub mod Held
+pub mod Listed
+pub mod Texts
+pub mod HeldLabels
+pub mod HeldIndices
+pub mod Indices
 pub mod PointMarks
 pub mod Keys
 pub mod Blocks

@@ -15,34 +15,34 @@ use Rattle.wb_footprints.specs.declared.name_marks.NameMarks.{NameMarks}
 use Rattle.wb_footprints.specs.Marks.{marked}
 use Rattle.wb_footprints.specs.Slots.{slot_cmp, slot_marked}
 use Rattle.wb_footprints.specs.PointMarks.{point_marked}
-use Rattle.wb_footprints.specs.Points.{Coordinates}
+use Rattle.wb_footprints.specs.Indices.{in_indices}
 use Rattle.wb_footprints.specs.Reaches.{in_reaches}
 
 -- a part of the object of a name
 abbrev pub Spot : Type 0
 Spot = Name × Part
 
+-- whether a number stands at an index alone
+abbrev pub alone_marked : IndexMarks → Index → ℕ → Bool
+alone_marked m (Point p) n = point_marked m.points p n
+alone_marked m (Text t) n = marked (slice_cmp nat_cmp) m.texts t n
+
 -- whether a number stands at an index: alone, or in a block
 abbrev pub index_marked : IndexMarks → Index → ℕ → Bool
-index_marked m (Point p) n = point_marked m.points p n || in_reaches m.blocks.reaches.items p n
-index_marked m (Text t) n = marked (slice_cmp nat_cmp) m.texts t n
+index_marked m i n = alone_marked m i n || in_reaches m.blocks.reaches.items i n
 
--- whether an index is one of some points
-abbrev pub in_index : List Coordinates → Index → Bool
-in_index ps i = list_any (λ p. is_same_index (Point p) i) ps
-
--- whether a part is one of its kind at one of some points
-abbrev pub in_run : Kind → List Coordinates → Part → Bool
-in_run Inside ps (In i) = in_index ps i
-in_run Members ps (Member i) = in_index ps i
-in_run Elements ps (Element i) = in_index ps i
+-- whether a part is one of its kind at one of some indices
+abbrev pub in_run : Kind → List Index → Part → Bool
+in_run Inside is (In i) = in_indices is i
+in_run Members is (Member i) = in_indices is i
+in_run Elements is (Element i) = in_indices is i
 in_run _ _ _ = false
 
--- the part of its kind at a point
-abbrev pub part_at : Kind → Coordinates → Part
-part_at Inside p = In (Point p)
-part_at Members p = Member (Point p)
-part_at Elements p = Element (Point p)
+-- the part of its kind at an index
+abbrev pub part_at : Kind → Index → Part
+part_at Inside i = In i
+part_at Members i = Member i
+part_at Elements i = Element i
 
 -- whether two parts are one
 abbrev pub is_same_part : Part → Part → Bool

@@ -5,7 +5,6 @@ use Rattle.wb_cells.specs.declared.cells.cell.Cell.{Cell}
 use Rattle.wb_cells.specs.declared.cells.cell.Cell.TheVariants as c
 use Rattle.wb_cells.specs.declared.cells.pattern.Pattern.{Pattern}
 use Rattle.wb_cells.specs.declared.cells.pattern.Pattern.TheVariants as p
-use Rattle.wb_cells.specs.declared.values.index.Index.TheVariants as i
 use Rattle.wb_cells.specs.Cells.{Name}
 use Rattle.wb_footprints.specs.declared.part.Kind.{Kind}
 use Rattle.wb_footprints.specs.declared.part.Kind.TheVariants as k
@@ -15,7 +14,7 @@ use Rattle.wb_footprints.specs.declared.place.Place.{Place}
 use Rattle.wb_footprints.specs.declared.place.Place.TheVariants.{Objects, Of}
 use Rattle.wb_footprints.specs.declared.place_marks.PlaceMarks.{PlaceMarks}
 use Rattle.wb_footprints.specs.Marks.{marked}
-use Rattle.wb_footprints.specs.Points.{Coordinates}
+use Rattle.wb_cells.specs.declared.values.index.Index.{Index}
 use Rattle.wb_footprints.specs.Spots.{spot_marked, is_same_spot, in_spots}
 
 -- the place of one cell
@@ -63,13 +62,13 @@ place_marked m (Of d x) n = spot_marked m.spots (d, x) n
 abbrev pub is_family : Place → Cell → Bool
 is_family q x = elim (family x) [ Some f ↦ is_same_place q f | None ↦ false ]
 
--- the cell of its kind, of the object of a name, at a point
-abbrev pub cell_at : Kind → Name → Coordinates → Cell
-cell_at k.Inside d x = c.In d (i.Point x)
-cell_at k.Members d x = c.Member d (i.Point x)
-cell_at k.Elements d x = c.Element d (i.Point x)
+-- the cell of its kind, of the object of a name, at an index
+abbrev pub cell_at : Kind → Name → Index → Cell
+cell_at k.Inside d i = c.In d i
+cell_at k.Members d i = c.Member d i
+cell_at k.Elements d i = c.Element d i
 
--- whether a place is that of such a cell at one of some points
-abbrev pub in_places : Name → Kind → List Coordinates → Place → Bool
+-- whether a place is that of such a cell at one of some indices
+abbrev pub in_places : Name → Kind → List Index → Place → Bool
 in_places d kind ps Objects = false
 in_places d kind ps (Of e x) = in_spots d kind ps (e, x)

@@ -8,7 +8,7 @@ use Rattle.wb_footprints.specs.declared.part.Kind.{Kind}
 use Rattle.wb_footprints.specs.declared.part.Part.{Part}
 use Rattle.wb_footprints.specs.declared.name_marks.NameMarks.{NameMarks}
 use Rattle.wb_footprints.specs.declared.spots.SpotMarks.{SpotMarks}
-use Rattle.wb_footprints.specs.Points.{Coordinates}
+use Rattle.wb_cells.specs.declared.values.index.Index.{Index}
 use Rattle.wb_footprints.specs.Parts.{Spot, is_same_part, in_run, part_marked}
 
 -- whether a number stands at a part of an object that may have no marks at all
@@ -24,6 +24,6 @@ spot_marked m s n = at_name (get (slice_cmp nat_cmp) m.names s.0) s.1 n
 abbrev pub is_same_spot : Spot → Spot → Bool
 is_same_spot s t = is_same_name s.0 t.0 && is_same_part s.1 t.1
 
--- whether it is one of its kind, of the object of a name, at one of some points
-abbrev pub in_spots : Name → Kind → List Coordinates → Spot → Bool
+-- whether it is one of its kind, of the object of a name, at one of some indices
+abbrev pub in_spots : Name → Kind → List Index → Spot → Bool
 in_spots d k ps s = is_same_name d s.0 && in_run k ps s.1

@@ -10,14 +10,14 @@ use Rattle.wb_footprints.specs.declared.runs.Run.{Run}
 use Rattle.wb_footprints.specs.declared.swept.SweptCells.{SweptCells}
 use Rattle.wb_footprints.specs.Numbers.{numbered}
 use Rattle.wb_footprints.specs.Marks.{marked}
-use Rattle.wb_footprints.specs.Points.{Coordinates}
+use Rattle.wb_cells.specs.declared.values.index.Index.{Index}
 use Rattle.wb_footprints.specs.Places.{cell_at}
 use Rattle.wb_footprints.specs.Footprints.{marked_own, marked_family}
 
 -- a sweep went through a cell: it is one of those that it keeps, or of a run that it keeps whole
 abbrev pub IsGone : SweptCells → Cell → ℕ → Type 0
 IsGone s c k = (marked cell_cmp s.cells c k ≡ true) ⊎
-    ((run : Run) × Contains s.runs.items run × ((p : Coordinates) × Contains run.points p × (c ≡ cell_at run.row.kind run.row.name p)))
+    ((run : Run) × Contains s.runs.items run × ((p : Index) × Contains run.indices p × (c ≡ cell_at run.row.kind run.row.name p)))
 
 -- All numbers wait that are above another one and are marked at a cell that a sweep went through, or at the family of a cell
 -- of whose family it asked.
@@ -25,11 +25,11 @@ pub record AreSwept (index : FootIndex) (swept : SweptCells) (waiting : Numbers)
   pub cells : (c : Cell) (k n : ℕ) → IsGone swept c k → after < n → marked_own index c n ≡ true → numbered waiting n ≡ true
   pub families : (c : Cell) (k n : ℕ) → marked cell_cmp swept.families c k ≡ true → after < n → marked_family index c n ≡ true → numbered waiting n ≡ true
 
--- a test fails at each point of a row whose cell is one of those that a sweep keeps
-abbrev pub FailsBehind : SweptCells → Kind → Name → (Coordinates → Bool) → Type 0
-FailsBehind s kind name f = (p : Coordinates) (k : ℕ) → marked cell_cmp s.cells (cell_at kind name p) k ≡ true → f p ≡ false
+-- a test fails at each index of a row whose cell is one of those that a sweep keeps
+abbrev pub FailsBehind : SweptCells → Kind → Name → (Index → Bool) → Type 0
+FailsBehind s kind name f = (p : Index) (k : ℕ) → marked cell_cmp s.cells (cell_at kind name p) k ≡ true → f p ≡ false
 
--- All numbers wait that are above another one and are marked at a cell of a row at one of some points.
-abbrev pub AreWaiting : FootIndex → Kind → Name → List Coordinates → Numbers → ℕ → Type 0
+-- All numbers wait that are above another one and are marked at a cell of a row at one of some indices.
+abbrev pub AreWaiting : FootIndex → Kind → Name → List Index → Numbers → ℕ → Type 0
 AreWaiting index kind name ps waiting after =
     (n : ℕ) → after < n → list_any (λ p. marked_own index (cell_at kind name p) n) ps ≡ true → numbered waiting n ≡ true

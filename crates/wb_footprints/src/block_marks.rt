@@ -3,19 +3,20 @@
 ghost use Rattle.std.specs.Prelude.{◌≡◌, ℕ, ◌+◌, ◌<◌, ◌≤◌, Bool, ◌&&◌, ◌==◌, true, false, [], ◌∷◌, ◌++◌, length, take, IsTrue, IfSome, OnOk, OnErr, slice_index_or};
 ghost use Rattle.std.specs.List.{list_any};
 ghost use Rattle.wb_footprints.specs.declared.reach_marks.ReachMarks as own;
-ghost use Rattle.wb_footprints.specs.Keys.{key_of};
-ghost use Rattle.wb_footprints.specs.Points.{Coordinates, in_points};
+ghost use Rattle.wb_footprints.specs.Keys.{index_key};
+ghost use Rattle.wb_cells.specs.declared.values.index.Index.{Index};
+ghost use Rattle.wb_footprints.specs.Indices.{in_indices};
 ghost use Rattle.wb_footprints.specs.Reaches.{in_reaches};
 ghost use Rattle.wb_footprints.specs.Relation.{Sets, IsLeastAfter, JoinedAfter};
 
 use crate::blocks::NewBlock;
 use crate::earlier::earlier;
+use crate::indices::Indices;
 use crate::keys::reach_of;
 use crate::numbers::Numbers;
-use crate::points::Points;
 use crate::reach_marks::ReachMarks;
 use std::alloc::Global;
-use wb_cells::Point;
+use wb_cells::AnyIndex;
 use wb_range::NoMemory;
 
 /// Blocks by their reaches: the few that `reach_of` gives.
@@ -36,14 +37,14 @@ impl BlockMarks {
         }
     }
 
-    /// Adds a number at some points, and says whether it did: not where there is no point, or no memory is left.
+    /// Adds a number at some indices, and says whether it did: not where there is no index, or no memory is left.
     pub fn add(&mut self, block: NewBlock) -> bool
-        ensures { Sets (in_reaches self.old.reaches.items) (in_reaches self.new.reaches.items) (λ p. result && in_points block.points p) block.number true }
+        ensures { Sets (in_reaches self.old.reaches.items) (in_reaches self.new.reaches.items) (λ p. result && in_indices block.indices p) block.number true }
     {
-        if block.points.len() == 0 {
+        if block.indices.len() == 0 {
             return false;
         }
-        let (low, high) = block.points.ends();
+        let (low, high) = block.indices.ends();
         let reach = reach_of(high - low);
         match self.place_of(reach) {
             Some(place) => self.add_at(place, low, block),
@@ -66,22 +67,22 @@ impl BlockMarks {
         None
     }
 
-    // Adds a number at points that begin at a key, to the reach at a place, and says whether there was memory for it.
+    // Adds a number at indices that begin at a key, to the reach at a place, and says whether there was memory for it.
     fn add_at(&mut self, place: usize, key: u64, block: NewBlock) -> bool
         requires place { place < length self.old.reaches.items }
         requires first { 0 < key }
-        requires within { (d : own.ReachMarks) (p : Coordinates) → in_points block.points p ≡ true →
-            (key ≤ key_of p) × (key_of p ≤ key + (slice_index_or self.old.reaches.items place d).reach) }
-        ensures { Sets (in_reaches self.old.reaches.items) (in_reaches self.new.reaches.items) (λ p. result && in_points block.points p) block.number true }
+        requires within { (d : own.ReachMarks) (p : Index) → in_indices block.indices p ≡ true →
+            (key ≤ index_key p) × (index_key p ≤ key + (slice_index_or self.old.reaches.items place d).reach) }
+        ensures { Sets (in_reaches self.old.reaches.items) (in_reaches self.new.reaches.items) (λ p. result && in_indices block.indices p) block.number true }
     {
         self.reaches[place].add(key, block)
     }
 
-    // Adds a number at points that begin at a key, by a reach of its own, and says whether there was memory for it.
+    // Adds a number at indices that begin at a key, by a reach of its own, and says whether there was memory for it.
     fn put(&mut self, reach: u64, key: u64, block: NewBlock) -> bool
         requires first { 0 < key }
-        requires within { (p : Coordinates) → in_points block.points p ≡ true → (key ≤ key_of p) × (key_of p ≤ key + reach) }
-        ensures { Sets (in_reaches self.old.reaches.items) (in_reaches self.new.reaches.items) (λ p. result && in_points block.points p) block.number true }
+        requires within { (p : Index) → in_indices block.indices p ≡ true → (key ≤ index_key p) × (index_key p ≤ key + reach) }
+        ensures { Sets (in_reaches self.old.reaches.items) (in_reaches self.new.reaches.items) (λ p. result && in_indices block.indices p) block.number true }
     {
         let mut marks = ReachMarks::new(self.alloc, reach);
         if !marks.add(key, block) {
@@ -118,8 +119,8 @@ impl BlockMarks {
     // Takes a number away from all blocks of the reach at a place.
     fn take_at(&mut self, place: usize, number: u64)
         requires { place < length self.old.reaches.items }
-        ensures others { (p : Coordinates) (n : ℕ) → (number == n) ≡ false → in_reaches self.new.reaches.items p n ≡ in_reaches self.old.reaches.items p n }
-        ensures gone { (p : Coordinates) → in_reaches (take place self.old.reaches.items) p number ≡ false →
+        ensures others { (p : Index) (n : ℕ) → (number == n) ≡ false → in_reaches self.new.reaches.items p n ≡ in_reaches self.old.reaches.items p n }
+        ensures gone { (p : Index) → in_reaches (take place self.old.reaches.items) p number ≡ false →
             in_reaches (take (place + 1) self.new.reaches.items) p number ≡ false }
         ensures count { length self.new.reaches.items ≡ length self.old.reaches.items }
     {
@@ -128,7 +129,7 @@ impl BlockMarks {
 
     /// Whether no block is seen to have the number.
     pub fn is_clear(&self, number: u64) -> bool
-        ensures { IsTrue result → (p : Coordinates) → in_reaches self.now.reaches.items p number ≡ false }
+        ensures { IsTrue result → (p : Index) → in_reaches self.now.reaches.items p number ≡ false }
     {
         for marks in &self.reaches {
             if marks.may_have(number) {
@@ -138,55 +139,55 @@ impl BlockMarks {
         true
     }
 
-    /// The least number above `after` at one of several points.
-    pub fn least_in(&self, points: &Points, after: u64) -> Option<u64>
-        ensures { IsLeastAfter (λ n. list_any (λ p. in_reaches self.now.reaches.items p n) points.now) after result }
+    /// The least number above `after` at one of several indices.
+    pub fn least_in(&self, indices: &Indices, after: u64) -> Option<u64>
+        ensures { IsLeastAfter (λ n. list_any (λ p. in_reaches self.now.reaches.items p n) indices.now) after result }
     {
-        if points.len() == 0 {
+        if indices.len() == 0 {
             return None;
         }
         let mut first = None;
         for marks in &self.reaches {
-            first = earlier(first, marks.least_in(points, after));
+            first = earlier(first, marks.least_in(indices, after));
         }
         first
     }
 
-    /// The least number above `after` at a point.
-    pub fn least_after(&self, point: &Point, after: u64) -> Option<u64>
-        ensures { IsLeastAfter (in_reaches self.now.reaches.items point.now) after result }
+    /// The least number above `after` at an index.
+    pub fn least_after(&self, index: &AnyIndex, after: u64) -> Option<u64>
+        ensures { IsLeastAfter (in_reaches self.now.reaches.items index.now) after result }
     {
-        self.least_in(&Points::one(point), after)
+        self.least_in(&Indices::one(index), after)
     }
 
-    /// Those above `after` at one of several points join the numbers that wait.
+    /// Those above `after` at one of several indices join the numbers that wait.
     pub fn join_in(
         &self,
-        points: &Points,
+        indices: &Indices,
         after: u64,
         waiting: &mut Numbers,
     ) -> Result<(), NoMemory>
         ensures { OnOk result (JoinedAfter waiting.old waiting.new
-            (λ n. list_any (λ p. in_reaches self.now.reaches.items p n) points.now) after) }
+            (λ n. list_any (λ p. in_reaches self.now.reaches.items p n) indices.now) after) }
     {
-        if points.len() == 0 {
+        if indices.len() == 0 {
             return Ok(());
         }
         for marks in &self.reaches {
-            marks.join_in(points, after, waiting)?;
+            marks.join_in(indices, after, waiting)?;
         }
         Ok(())
     }
 
-    /// Those above `after` at a point join the numbers that wait.
+    /// Those above `after` at an index join the numbers that wait.
     pub fn join_after(
         &self,
-        point: &Point,
+        index: &AnyIndex,
         after: u64,
         waiting: &mut Numbers,
     ) -> Result<(), NoMemory>
-        ensures { OnOk result (JoinedAfter waiting.old waiting.new (in_reaches self.now.reaches.items point.now) after) }
+        ensures { OnOk result (JoinedAfter waiting.old waiting.new (in_reaches self.now.reaches.items index.now) after) }
     {
-        self.join_in(&Points::one(point), after, waiting)
+        self.join_in(&Indices::one(index), after, waiting)
     }
 }

@@ -37,10 +37,11 @@ impl FootIndex {
         waiting: &mut Numbers,
     ) -> Result<(), NoMemory>
         ensures { OnOk result (JoinedAfter waiting.old waiting.new
-            (λ n. list_any (λ p. marked_own self.now (cell_at run.now.row.kind run.now.row.name p) n) run.now.points) after) }
+            (λ n. list_any (λ p. marked_own self.now (cell_at run.now.row.kind run.now.row.name p) n) run.now.indices) after) }
     {
-        self.touched.join_in(&run.row, &run.points, after, waiting)?;
-        self.read.join_in(&run.row, &run.points, after, waiting)
+        self.touched
+            .join_in(&run.row, &run.indices, after, waiting)?;
+        self.read.join_in(&run.row, &run.indices, after, waiting)
     }
 
     /// Those above `after` at the own place of the cell join the numbers that wait. A cell that the sweep went through before is
@@ -95,7 +96,7 @@ impl FootIndex {
     ) -> Result<(), NoMemory>
         requires { AreSwept self.now swept.old waiting.old after }
         ensures joined { OnOk result (JoinedAfter waiting.old waiting.new
-            (λ n. list_any (λ p. marked_own self.now (cell_at run.now.row.kind run.now.row.name p) n) run.now.points) after) }
+            (λ n. list_any (λ p. marked_own self.now (cell_at run.now.row.kind run.now.row.name p) n) run.now.indices) after) }
         ensures swept { OnOk result (AreSwept self.now swept.new waiting.new after) }
     {
         self.join_own_together(run, after, waiting)?;
@@ -113,14 +114,14 @@ impl FootIndex {
     ) -> Result<(), NoMemory>
         requires { AreSwept self.now swept.old waiting.old after }
         ensures joined { OnOk result (JoinedAfter waiting.old waiting.new
-            (λ n. list_any (λ p. marked_own self.now (cell_at run.now.row.kind run.now.row.name p) n) run.now.points) after) }
+            (λ n. list_any (λ p. marked_own self.now (cell_at run.now.row.kind run.now.row.name p) n) run.now.indices) after) }
         ensures swept { OnOk result (AreSwept self.now swept.new waiting.new after) }
     {
-        match swept.new_points(self.touched.alloc, run) {
+        match swept.new_indices(self.touched.alloc, run) {
             None => Err(NoMemory),
-            Some(points) => {
+            Some(indices) => {
                 let row = run.row;
-                self.join_own_new(&Run { row, points }, after, waiting, swept)
+                self.join_own_new(&Run { row, indices }, after, waiting, swept)
             }
         }
     }
@@ -136,7 +137,7 @@ impl FootIndex {
     ) -> Result<(), NoMemory>
         requires { AreSwept self.now swept.old waiting.old after }
         ensures joined { OnOk result (JoinedAfter waiting.old waiting.new
-            (λ n. list_any (λ p. marked_own self.now (cell_at run.row.kind run.row.name p) n) run.points) after) }
+            (λ n. list_any (λ p. marked_own self.now (cell_at run.row.kind run.row.name p) n) run.indices) after) }
         ensures swept { OnOk result (AreSwept self.now swept.new waiting.new after) }
     {
         if swept.has_run(&run) {

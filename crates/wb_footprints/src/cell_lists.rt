@@ -2,7 +2,7 @@
 
 ghost use Rattle.std.specs.Prelude.{◌≡◌, ◌&&◌, ◌<◌, true, length, IsTrue, OnOk, OnErr, IfOk};
 ghost use Rattle.wb_footprints.specs.Relation.{Sets, Stays, Clears};
-ghost use Rattle.wb_footprints.specs.Points.{Coordinates};
+ghost use Rattle.wb_cells.specs.declared.values.index.Index.{Index};
 ghost use Rattle.wb_footprints.specs.Places.{cell_at, family, place_marked};
 ghost use Rattle.wb_footprints.specs.declared.place.Place.{Place};
 ghost use Rattle.wb_cells.specs.Runs.{changes_in, all_changes, in_first};
@@ -62,8 +62,8 @@ fn mark_row(
     cells: &ChangeRun,
     number: u64,
 ) -> Result<bool, NoMemory>
-    requires some { 0 < length run.points }
-    requires marked { (q : Place) → marked_at marking (changes_in cells.now.form) q ≡ run_marked marking run.row.kind run.row.name run.points q }
+    requires some { 0 < length run.indices }
+    requires marked { (q : Place) → marked_at marking (changes_in cells.now.form) q ≡ run_marked marking run.row.kind run.row.name run.indices q }
     ensures ok { IfOk result (λ b. Sets (place_marked marks.old) (place_marked marks.new)
         (λ q. b && marked_at marking (changes_in cells.now.form) q) number true) }
     ensures err { OnErr result (Stays (place_marked marks.old) (place_marked marks.new) (marked_at marking (changes_in cells.now.form)) number) }
@@ -74,7 +74,7 @@ fn mark_row(
         row.kind,
         NewBlock {
             number,
-            points: run.points,
+            indices: run.indices,
         },
     ) {
         return Ok(false);
@@ -96,8 +96,8 @@ fn mark_part(
     cells: &ChangeRun,
     number: u64,
 ) -> Result<(), NoMemory>
-    requires some { 0 < length run.points }
-    requires marked { (q : Place) → marked_at marking (changes_in cells.now.form) q ≡ run_marked marking run.row.kind run.row.name run.points q }
+    requires some { 0 < length run.indices }
+    requires marked { (q : Place) → marked_at marking (changes_in cells.now.form) q ≡ run_marked marking run.row.kind run.row.name run.indices q }
     ensures ok { OnOk result (Sets (place_marked marks.old) (place_marked marks.new) (marked_at marking (changes_in cells.now.form)) number true) }
     ensures err { OnErr result (Stays (place_marked marks.old) (place_marked marks.new) (marked_at marking (changes_in cells.now.form)) number) }
 {
@@ -107,7 +107,7 @@ fn mark_part(
     mark_each(marks, marking, cells, number)
 }
 
-// Marks the cells of a run: by one block if it is long, its points ascend and there is room for it, and else one by one.
+// Marks the cells of a run: by one block if it is long and there is room for it, and else one by one.
 fn mark_run(
     marks: &mut PlaceMarks,
     marking: Marking,
@@ -189,7 +189,7 @@ fn unmark_first(
     cell: &Cell,
     number: u64,
 ) -> bool
-    requires { (p : Coordinates) → family (cell_at row.now.kind row.now.name p) ≡ family cell.now }
+    requires { (p : Index) → family (cell_at row.now.kind row.now.name p) ≡ family cell.now }
     ensures cell { Clears (place_marked marks.old) (place_marked marks.new) (at_cell marking cell.now) number }
     ensures row { IsTrue result → IsUnmarked marking row.now.kind row.now.name marks.new number }
 {

@@ -1,7 +1,7 @@
-//! Where points stand by their first coordinate.
+//! Where indices stand: points by their first coordinate, labels by their first bytes.
 
-ghost use Rattle.std.specs.Prelude.{◌≡◌, ◌≤◌, ◌^◌, max, pos, ◌+ℤ◌};
-ghost use Rattle.wb_footprints.specs.Keys.{above_least, key_of};
+ghost use Rattle.std.specs.Prelude.{◌≡◌, ◌<◌, ◌≤◌, ◌^◌, max, pos, ◌+ℤ◌, get_or};
+ghost use Rattle.wb_footprints.specs.Keys.{above_least, key_of, text_key};
 
 use wb_cells::Point;
 
@@ -28,6 +28,28 @@ fn above_least(first: i64) -> u64
     ensures { pos result ≡ first +ℤ pos (2 ^ 63) }
 {
     first.abs_diff(i64::MIN)
+}
+
+// The byte at a place of a text, or 0 behind its end.
+fn byte_at(text: &[u8], at: usize) -> u64
+    ensures value { result ≡ get_or text.now at 0 }
+    ensures byte { result < 256 }
+{
+    match text.get(at) {
+        Some(byte) => *byte as u64,
+        None => 0,
+    }
+}
+
+/// The key of a label: its first seven bytes as a number, with zeros behind a shorter one. Labels that begin alike have one key.
+pub(crate) fn text_key(text: &[u8]) -> u64
+    ensures { result ≡ text_key text.now }
+{
+    let mut key: u64 = 0;
+    for at in 0..7 {
+        key = key * 256 + byte_at(text, at);
+    }
+    key + 1
 }
 
 /// A reach that is no less than a width, and of which there are few: each is about twice the one before.

@@ -14,7 +14,10 @@ mod earlier;
 mod foot_index;
 mod groups;
 mod index_marks;
+mod indices;
 mod keys;
+mod label_list;
+mod labels;
 mod marking;
 mod marks;
 mod name_marks;
@@ -31,6 +34,7 @@ mod runs;
 mod slot_marks;
 mod spots;
 mod swept;
+mod text_marks;
 
 pub use crate::foot_index::FootIndex;
 pub use crate::numbers::Numbers;

@@ -4,15 +4,15 @@ ghost use Rattle.std.specs.Prelude.{◌≡◌, ℕ, ◌&&◌, false, true, IsTru
 ghost use Rattle.std.specs.List.{list_any};
 ghost use Rattle.wb_footprints.specs.declared.part.Part.{Part};
 ghost use Rattle.wb_footprints.specs.Relation.{Sets, Clears, IsLeastAfter, JoinedAfter};
-ghost use Rattle.wb_footprints.specs.Points.{Coordinates};
+ghost use Rattle.wb_cells.specs.declared.values.index.Index.{Index};
 ghost use Rattle.wb_footprints.specs.Parts.{part_at, part_marked, is_same_part, in_run};
 
 use crate::blocks::NewBlock;
 use crate::index_marks::IndexMarks;
+use crate::indices::Indices;
 use crate::marks::Marks;
 use crate::numbers::Numbers;
 use crate::part::{Kind, Part};
-use crate::points::Points;
 use crate::slot_marks::SlotMarks;
 use std::alloc::Global;
 use wb_cells::Name;
@@ -68,9 +68,9 @@ impl NameMarks {
         }
     }
 
-    /// Adds a number at many points, and says whether it did.
+    /// Adds a number at many indices, and says whether it did.
     pub fn add_block(&mut self, kind: Kind, block: NewBlock) -> bool
-        ensures { Sets (part_marked self.old) (part_marked self.new) (λ x. result && in_run kind block.points x) block.number true }
+        ensures { Sets (part_marked self.old) (part_marked self.new) (λ x. result && in_run kind block.indices x) block.number true }
     {
         match kind {
             Kind::Inside => self.inside.add_block(block),
@@ -92,9 +92,9 @@ impl NameMarks {
         }
     }
 
-    /// Whether the number is seen to stand at no point of the kind.
+    /// Whether the number is seen to stand at no index of the kind.
     pub fn is_clear(&self, kind: Kind, number: u64) -> bool
-        ensures { IsTrue result → (p : Coordinates) → part_marked self.now (part_at kind p) number ≡ false }
+        ensures { IsTrue result → (p : Index) → part_marked self.now (part_at kind p) number ≡ false }
     {
         match kind {
             Kind::Inside => self.inside.is_clear(number),
@@ -103,14 +103,14 @@ impl NameMarks {
         }
     }
 
-    /// The least number above `after` at one of several points of the kind.
-    pub fn least_in(&self, kind: Kind, points: &Points, after: u64) -> Option<u64>
-        ensures { IsLeastAfter (λ n. list_any (λ p. part_marked self.now (part_at kind p) n) points.now) after result }
+    /// The least number above `after` at one of several indices of the kind.
+    pub fn least_in(&self, kind: Kind, indices: &Indices, after: u64) -> Option<u64>
+        ensures { IsLeastAfter (λ n. list_any (λ p. part_marked self.now (part_at kind p) n) indices.now) after result }
     {
         match kind {
-            Kind::Inside => self.inside.least_in(points, after),
-            Kind::Members => self.members.least_in(points, after),
-            Kind::Elements => self.elements.least_in(points, after),
+            Kind::Inside => self.inside.least_in(indices, after),
+            Kind::Members => self.members.least_in(indices, after),
+            Kind::Elements => self.elements.least_in(indices, after),
         }
     }
 
@@ -127,21 +127,21 @@ impl NameMarks {
         }
     }
 
-    /// Those above `after` at one of several points of the kind join the numbers that wait.
+    /// Those above `after` at one of several indices of the kind join the numbers that wait.
     pub fn join_in(
         &self,
         kind: Kind,
-        points: &Points,
+        indices: &Indices,
         after: u64,
         waiting: &mut Numbers,
     ) -> Result<(), NoMemory>
         ensures { OnOk result (JoinedAfter waiting.old waiting.new
-            (λ n. list_any (λ p. part_marked self.now (part_at kind p) n) points.now) after) }
+            (λ n. list_any (λ p. part_marked self.now (part_at kind p) n) indices.now) after) }
     {
         match kind {
-            Kind::Inside => self.inside.join_in(points, after, waiting),
-            Kind::Members => self.members.join_in(points, after, waiting),
-            Kind::Elements => self.elements.join_in(points, after, waiting),
+            Kind::Inside => self.inside.join_in(indices, after, waiting),
+            Kind::Members => self.members.join_in(indices, after, waiting),
+            Kind::Elements => self.elements.join_in(indices, after, waiting),
         }
     }
 

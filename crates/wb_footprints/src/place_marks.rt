@@ -4,15 +4,15 @@ ghost use Rattle.std.specs.Prelude.{◌≡◌, ℕ, ◌&&◌, false, true, IsTru
 ghost use Rattle.wb_footprints.specs.declared.place.Place.{Place};
 ghost use Rattle.std.specs.List.{list_any};
 ghost use Rattle.wb_footprints.specs.Relation.{Sets, Clears, IsLeastAfter, JoinedAfter};
-ghost use Rattle.wb_footprints.specs.Points.{Coordinates};
+ghost use Rattle.wb_cells.specs.declared.values.index.Index.{Index};
 ghost use Rattle.wb_footprints.specs.Places.{own, cell_at, place_marked, is_same_place, in_places};
 
 use crate::blocks::NewBlock;
+use crate::indices::Indices;
 use crate::marks::Marks;
 use crate::numbers::Numbers;
 use crate::part::Kind;
 use crate::place::Place;
-use crate::points::Points;
 use crate::runs::Row;
 use crate::spots::SpotMarks;
 use std::alloc::Global;
@@ -50,9 +50,9 @@ impl PlaceMarks {
         }
     }
 
-    /// Adds a number at many points of the object of a name, and says whether it did. Where not, they may go one by one.
+    /// Adds a number at many indices of the object of a name, and says whether it did. Where not, they may go one by one.
     pub fn add_block(&mut self, name: Name, kind: Kind, block: NewBlock) -> bool
-        ensures { Sets (place_marked self.old) (place_marked self.new) (λ q. result && in_places name kind block.points q) block.number true }
+        ensures { Sets (place_marked self.old) (place_marked self.new) (λ q. result && in_places name kind block.indices q) block.number true }
     {
         self.spots.add_block(name, kind, block)
     }
@@ -67,18 +67,18 @@ impl PlaceMarks {
         }
     }
 
-    /// Whether the number is seen to stand at no point of the kind, of the object of a name.
+    /// Whether the number is seen to stand at no index of the kind, of the object of a name.
     pub fn is_clear(&self, name: Name, kind: Kind, number: u64) -> bool
-        ensures { IsTrue result → (p : Coordinates) (q : Place) → is_same_place (own (cell_at kind name p)) q ≡ true → place_marked self.now q number ≡ false }
+        ensures { IsTrue result → (p : Index) (q : Place) → is_same_place (own (cell_at kind name p)) q ≡ true → place_marked self.now q number ≡ false }
     {
         self.spots.is_clear(name, kind, number)
     }
 
-    /// The least number above `after` at the own place of one of the cells of a row at several points.
-    pub fn least_in(&self, row: &Row, points: &Points, after: u64) -> Option<u64>
-        ensures { IsLeastAfter (λ n. list_any (λ p. place_marked self.now (own (cell_at row.now.kind row.now.name p)) n) points.now) after result }
+    /// The least number above `after` at the own place of one of the cells of a row at several indices.
+    pub fn least_in(&self, row: &Row, indices: &Indices, after: u64) -> Option<u64>
+        ensures { IsLeastAfter (λ n. list_any (λ p. place_marked self.now (own (cell_at row.now.kind row.now.name p)) n) indices.now) after result }
     {
-        self.spots.least_in(row.name, row.kind, points, after)
+        self.spots.least_in(row.name, row.kind, indices, after)
     }
 
     /// The least number above `after` at a place.
@@ -91,19 +91,19 @@ impl PlaceMarks {
         }
     }
 
-    /// Those above `after` at the own place of one of the cells of a row at several points join the numbers that wait.
+    /// Those above `after` at the own place of one of the cells of a row at several indices join the numbers that wait.
     pub fn join_in(
         &self,
         row: &Row,
-        points: &Points,
+        indices: &Indices,
         after: u64,
         waiting: &mut Numbers,
     ) -> Result<(), NoMemory>
         ensures { OnOk result (JoinedAfter waiting.old waiting.new
-            (λ n. list_any (λ p. place_marked self.now (own (cell_at row.now.kind row.now.name p)) n) points.now) after) }
+            (λ n. list_any (λ p. place_marked self.now (own (cell_at row.now.kind row.now.name p)) n) indices.now) after) }
     {
         self.spots
-            .join_in(row.name, row.kind, points, after, waiting)
+            .join_in(row.name, row.kind, indices, after, waiting)
     }
 
     /// Those above `after` at a place join the numbers that wait.

@@ -40,14 +40,14 @@ impl FootIndex {
     }
 
     /// The least number above `after` whose footprint read or touched one of the cells of a run.
-    fn met_at_points(&self, run: &Run, after: u64) -> Option<u64>
-        requires { 0 < length run.now.points }
+    fn met_together(&self, run: &Run, after: u64) -> Option<u64>
+        requires { 0 < length run.now.indices }
         ensures least { (footprints : Footprints) → IsIndexOf self.now footprints →
-            IsLeastAfter (λ n. list_any (λ p. met_by (footprints n) (cell_at run.now.row.kind run.now.row.name p)) run.now.points) after result }
+            IsLeastAfter (λ n. list_any (λ p. met_by (footprints n) (cell_at run.now.row.kind run.now.row.name p)) run.now.indices) after result }
         ensures above { IfSome result (λ j. after < j) }
     {
-        let touched = self.touched.least_in(&run.row, &run.points, after);
-        let first = earlier(touched, self.read.least_in(&run.row, &run.points, after));
+        let touched = self.touched.least_in(&run.row, &run.indices, after);
+        let first = earlier(touched, self.read.least_in(&run.row, &run.indices, after));
         match run.row.family(Marking::Families) {
             Some(family) => earlier(first, self.read.least_after(&family, after)),
             None => first,
@@ -71,8 +71,8 @@ impl FootIndex {
         first
     }
 
-    /// The least number above `after` whose footprint read or touched one of the cells. Few cells, and those that do not ascend,
-    /// are asked one by one; others all together, but for the first, which may be met by the number right above already.
+    /// The least number above `after` whose footprint read or touched one of the cells. Few cells are
+    /// asked one by one; others all together, but for the first, which may be met by the number right above already.
     fn met_in(&self, cells: &ChangeRun, after: u64) -> Option<u64>
         ensures least { (footprints : Footprints) → IsIndexOf self.now footprints →
             IsLeastAfter (λ n. any_met (footprints n) (changes_in cells.now.form)) after result }
@@ -87,7 +87,7 @@ impl FootIndex {
         }
         match Run::of_cells(self.touched.alloc, cells) {
             None => self.met_each(cells, after),
-            Some(run) => self.met_at_points(&run, after),
+            Some(run) => self.met_together(&run, after),
         }
     }
 
@@ -147,11 +147,11 @@ impl FootIndex {
     }
 
     /// The least number above `after` whose footprint touched one of the cells of a run.
-    fn touched_at_points(&self, run: &Run, after: u64) -> Option<u64>
+    fn touched_together(&self, run: &Run, after: u64) -> Option<u64>
         ensures { (footprints : Footprints) → IsIndexOf self.now footprints →
-            IsLeastAfter (λ n. list_any (λ p. touched_by (footprints n) (own (cell_at run.now.row.kind run.now.row.name p))) run.now.points) after result }
+            IsLeastAfter (λ n. list_any (λ p. touched_by (footprints n) (own (cell_at run.now.row.kind run.now.row.name p))) run.now.indices) after result }
     {
-        self.touched.least_in(&run.row, &run.points, after)
+        self.touched.least_in(&run.row, &run.indices, after)
     }
 
     /// The least number above `after` whose footprint touched one of the cells, asked one by one.
@@ -170,8 +170,8 @@ impl FootIndex {
         first
     }
 
-    /// The least number above `after` whose footprint touched one of the cells. Few cells, and those that do not ascend, are asked
-    /// one by one; others all together, but for the first, which may be touched by the number right above already.
+    /// The least number above `after` whose footprint touched one of the cells. Few cells are asked one by one;
+    /// others all together, but for the first, which may be touched by the number right above already.
     fn touched_in(&self, cells: &ChangeRun, after: u64) -> Option<u64>
         ensures { (footprints : Footprints) → IsIndexOf self.now footprints →
             IsLeastAfter (λ n. list_any (λ x. touched_by (footprints n) (own x.cell)) (changes_in cells.now.form)) after result }
@@ -185,7 +185,7 @@ impl FootIndex {
         }
         match Run::of_cells(self.touched.alloc, cells) {
             None => self.touched_each(cells, after),
-            Some(run) => self.touched_at_points(&run, after),
+            Some(run) => self.touched_together(&run, after),
         }
     }
 

@@ -7,23 +7,24 @@ ghost use Rattle.std.specs.BTreeMap.Range.{IsLeBy, IsLtBy, range_contains};
 ghost use Rattle.std.specs.Ordering.{nat_cmp, eq_by_cmp};
 ghost use Rattle.std.specs.Range.Bound.{IsForward};
 ghost use Rattle.wb_footprints.specs.Groups.{in_groups, is_kept, AreAll};
-ghost use Rattle.wb_footprints.specs.Keys.{key_of};
+ghost use Rattle.wb_footprints.specs.Keys.{index_key};
 ghost use Rattle.wb_footprints.specs.Marks.{marked};
-ghost use Rattle.wb_footprints.specs.Points.{Coordinates, in_points};
+ghost use Rattle.wb_cells.specs.declared.values.index.Index.{Index};
+ghost use Rattle.wb_footprints.specs.Indices.{in_indices};
 ghost use Rattle.wb_footprints.specs.Relation.{Sets, IsLeastAfter, JoinedAfter};
 
 use crate::blocks::{Blocks, NewBlock};
 use crate::earlier::earlier;
 use crate::groups::{add_to, take_from};
+use crate::indices::Indices;
 use crate::marks::Marks;
 use crate::numbers::Numbers;
-use crate::points::Points;
 use std::alloc::Global;
 use std::collections::BTreeMap;
 use std::ops::Bound;
 use wb_range::NoMemory;
 
-/// Blocks by the keys of their first points; the key of no point of a block is further from that than the reach. A number that
+/// Blocks by the keys of their first indices; the key of no index of a block is further from that than the reach. A number that
 /// some blocks have is kept with the keys of those.
 #[derive(Drop)]
 pub struct ReachMarks {
@@ -37,7 +38,7 @@ pub struct ReachMarks {
 impl ReachMarks {
     /// No blocks.
     pub fn new(alloc: Global, reach: u64) -> ReachMarks
-        ensures none { (p : Coordinates) (n : ℕ) → in_groups result.groups.entries p n ≡ false }
+        ensures none { (p : Index) (n : ℕ) → in_groups result.groups.entries p n ≡ false }
         ensures reach { result.reach ≡ reach }
     {
         ReachMarks {
@@ -48,11 +49,11 @@ impl ReachMarks {
         }
     }
 
-    /// Adds a number at points that begin at a key, and says whether there was memory for it.
+    /// Adds a number at indices that begin at a key, and says whether there was memory for it.
     pub fn add(&mut self, key: u64, block: NewBlock) -> bool
         requires first { 0 < key }
-        requires within { (p : Coordinates) → in_points block.points p ≡ true → (key ≤ key_of p) × (key_of p ≤ key + self.old.reach) }
-        ensures { Sets (in_groups self.old.groups.entries) (in_groups self.new.groups.entries) (λ p. result && in_points block.points p) block.number true }
+        requires within { (p : Index) → in_indices block.indices p ≡ true → (key ≤ index_key p) × (index_key p ≤ key + self.old.reach) }
+        ensures { Sets (in_groups self.old.groups.entries) (in_groups self.new.groups.entries) (λ p. result && in_indices block.indices p) block.number true }
     {
         match self.homes.add(block.number, key) {
             Ok(()) => add_to(self.alloc, &mut self.groups, key, block),
@@ -73,7 +74,7 @@ impl ReachMarks {
 
     // Takes a number away from the blocks of a key, which is its home no more.
     fn take_home(&mut self, key: u64, number: u64)
-        ensures others { (p : Coordinates) (n : ℕ) → (number == n) ≡ false →
+        ensures others { (p : Index) (n : ℕ) → (number == n) ≡ false →
             in_groups self.new.groups.entries p n ≡ in_groups self.old.groups.entries p n }
         ensures homes { Sets (marked nat_cmp self.old.homes) (marked nat_cmp self.new.homes) (eq_by_cmp nat_cmp number) key false }
     {
@@ -83,50 +84,50 @@ impl ReachMarks {
 
     /// Whether a block may have the number.
     pub fn may_have(&self, number: u64) -> bool
-        ensures { result ≡ false → (p : Coordinates) → in_groups self.now.groups.entries p number ≡ false }
+        ensures { result ≡ false → (p : Index) → in_groups self.now.groups.entries p number ≡ false }
     {
         self.homes.least_after(number, 0).is_some()
     }
 
-    // The keys between which all blocks stand that meet some points.
-    fn near(&self, points: &Points) -> (Bound<u64>, Bound<u64>)
-        requires { 0 < length points.now }
+    // The keys between which all blocks stand that meet some indices.
+    fn near(&self, indices: &Indices) -> (Bound<u64>, Bound<u64>)
+        requires { 0 < length indices.now }
         ensures forward { IsForward (IsLeBy nat_cmp) (IsLtBy nat_cmp) result.0 result.1 }
-        ensures all { (p : Coordinates) (k : ℕ) → in_points points.now p ≡ true → k ≤ key_of p → key_of p ≤ k + self.now.reach →
+        ensures all { (p : Index) (k : ℕ) → in_indices indices.now p ≡ true → k ≤ index_key p → index_key p ≤ k + self.now.reach →
             range_contains nat_cmp result.0 result.1 k ≡ true }
     {
-        let (low, high) = points.ends();
+        let (low, high) = indices.ends();
         (
             Bound::Included(low.saturating_sub(self.reach)),
             Bound::Included(high),
         )
     }
 
-    /// The least number above `after` at one of several points, of the blocks that are near.
-    pub fn least_in(&self, points: &Points, after: u64) -> Option<u64>
-        requires { 0 < length points.now }
-        ensures { IsLeastAfter (λ n. list_any (λ p. in_groups self.now.groups.entries p n) points.now) after result }
+    /// The least number above `after` at one of several indices, of the blocks that are near.
+    pub fn least_in(&self, indices: &Indices, after: u64) -> Option<u64>
+        requires { 0 < length indices.now }
+        ensures { IsLeastAfter (λ n. list_any (λ p. in_groups self.now.groups.entries p n) indices.now) after result }
     {
         let mut first = None;
-        for (_, blocks) in self.groups.range(self.near(points)) {
-            first = earlier(first, blocks.least_in(points, after));
+        for (_, blocks) in self.groups.range(self.near(indices)) {
+            first = earlier(first, blocks.least_in(indices, after));
         }
         first
     }
 
-    /// Those above `after` at one of several points join the numbers that wait, of the blocks that are near.
+    /// Those above `after` at one of several indices join the numbers that wait, of the blocks that are near.
     pub fn join_in(
         &self,
-        points: &Points,
+        indices: &Indices,
         after: u64,
         waiting: &mut Numbers,
     ) -> Result<(), NoMemory>
-        requires { 0 < length points.now }
+        requires { 0 < length indices.now }
         ensures { OnOk result (JoinedAfter waiting.old waiting.new
-            (λ n. list_any (λ p. in_groups self.now.groups.entries p n) points.now) after) }
+            (λ n. list_any (λ p. in_groups self.now.groups.entries p n) indices.now) after) }
     {
-        for (_, blocks) in self.groups.range(self.near(points)) {
-            blocks.join_in(points, after, waiting)?;
+        for (_, blocks) in self.groups.range(self.near(indices)) {
+            blocks.join_in(indices, after, waiting)?;
         }
         Ok(())
     }

@@ -1,26 +1,31 @@
-//! Runs: the elements, members or indices inside of one object, by their points in ascending order.
+//! Runs: the elements, members or indices inside of one object, by their indices in ascending order.
 
-ghost use Rattle.std.specs.Prelude.{◌≡◌, ◌<◌, ◌≤◌, Bool, IfSome, IsTrue, length, map};
+ghost use Rattle.std.specs.Prelude.{◌≡◌, ℕ, ℤ, ◌<◌, ◌≤◌, Bool, List, Option, IfSome, IsTrue, length, map, get_or};
 ghost use Rattle.std.specs.List.{list_any};
-ghost use Rattle.wb_cells.specs.declared.values.index.Index.TheVariants.{Point as at_point};
-ghost use Rattle.wb_cells.specs.Runs.{cell_of, changes_in, packed_changes, rectangle_entries, numbered_entries};
+ghost use Rattle.wb_cells.specs.Runs.{cell_of, changes_in, packed_changes, labelled_changes, rectangle_entries, numbered_entries};
 ghost use Rattle.wb_cells.specs.Shapes.{indices};
 ghost use Rattle.wb_footprints.specs.declared.marking.Marking.{Marking};
 ghost use Rattle.wb_footprints.specs.declared.place.Place.{Place};
+ghost use Rattle.wb_cells.specs.declared.values.index.Index.{Index};
+ghost use Rattle.wb_cells.specs.declared.values.index.Index.TheVariants.{Text as at_text};
 ghost use Rattle.wb_footprints.specs.Points.{Coordinates};
 ghost use Rattle.wb_footprints.specs.Places.{cell_at, family};
 ghost use Rattle.wb_footprints.specs.Rows.{AreOfRow, AreAt};
 ghost use Rattle.wb_footprints.specs.Footprints.{family_by, marked_at, run_marked};
 
+use crate::indices::Indices;
+use crate::label_list::LabelList;
+use crate::labels::Labels;
 use crate::marking::Marking;
 use crate::part::{Kind, Part, Slot};
 use crate::place::Place;
 use crate::points::{Points, with_room};
 use std::alloc::Global;
 use wb_cells::{
-    AnyIndex, Cell, ChangeRun, Form, Index, Name, Packed, Point, RectangleChanges,
+    AnyIndex, Cell, ChangeRun, Form, Index, LabelChanges, Name, Packed, Point, RectangleChanges,
     RectangleNumbers, Row as ChangeRow,
 };
+use wb_sets::Label;
 
 /// So many cells at least go into one block.
 pub(crate) const LEAST: usize = 64;
@@ -35,7 +40,7 @@ pub struct Row {
 impl Row {
     /// The cells that a row of changes is of.
     pub(crate) fn of(row: &ChangeRow) -> Row
-        ensures { (p : Coordinates) → cell_at result.kind result.name p ≡ cell_of row.now (at_point p) }
+        ensures { (i : Index) → cell_at result.kind result.name i ≡ cell_of row.now i }
     {
         match row {
             ChangeRow::Inside(name) => Row {
@@ -62,7 +67,7 @@ impl Row {
             Form::Line(line) => Some(Row::of(line.row())),
             Form::Plane(plane) => Some(Row::of(plane.row())),
             Form::Solid(solid) => Some(Row::of(solid.row())),
-            Form::Labels(_) => None,
+            Form::Labels(labels) => Some(Row::of(labels.row())),
             Form::Rectangle(rectangle) => Some(Row::of(rectangle.row())),
             Form::Numbers(rectangle) => Some(Row::of(rectangle.row())),
         }
@@ -78,21 +83,20 @@ impl Row {
         self.kind.is_same(other.kind)
     }
 
-    /// The cell at a point.
-    pub(crate) fn cell(&self, point: &Point) -> Cell
-        ensures { result ≡ cell_at self.now.kind self.now.name point.now }
+    /// The cell at an index.
+    pub(crate) fn cell(&self, index: &AnyIndex) -> Cell
+        ensures { result ≡ cell_at self.now.kind self.now.name index.now }
     {
-        let index = AnyIndex::new(Index::Point(*point));
         match self.kind {
-            Kind::Inside => Cell::In(self.name, index),
-            Kind::Members => Cell::Member(self.name, index),
-            Kind::Elements => Cell::Element(self.name, index),
+            Kind::Inside => Cell::In(self.name, *index),
+            Kind::Members => Cell::Member(self.name, *index),
+            Kind::Elements => Cell::Element(self.name, *index),
         }
     }
 
     /// The place of their family, if they are marked at that too.
     pub(crate) fn family(&self, marking: Marking) -> Option<Place>
-        ensures { (p : Coordinates) → result ≡ family_by marking (cell_at self.now.kind self.now.name p) }
+        ensures { (i : Index) → result ≡ family_by marking (cell_at self.now.kind self.now.name i) }
     {
         match marking {
             Marking::Own => None,
@@ -102,7 +106,7 @@ impl Row {
 
     // The place of their family, where patterns name it.
     fn named_family(&self) -> Option<Place>
-        ensures { (p : Coordinates) → result ≡ family (cell_at self.now.kind self.now.name p) }
+        ensures { (i : Index) → result ≡ family (cell_at self.now.kind self.now.name i) }
     {
         match self.kind {
             Kind::Inside => None,
@@ -112,11 +116,11 @@ impl Row {
     }
 }
 
-/// Cells of one row, by their points in ascending order.
+/// Cells of one row, by their indices in ascending order.
 #[derive(Drop)]
 pub struct Run {
     pub(crate) row: Row,
-    pub(crate) points: Points,
+    pub(crate) indices: Indices,
 }
 
 impl Run {
@@ -127,18 +131,18 @@ impl Run {
         if !self.row.is_same(&other.row) {
             return false;
         }
-        self.points.is_same(&other.points)
+        self.indices.is_same(&other.indices)
     }
 
     /// The run that cells are, in whichever order, if all are of one row, and there is memory.
     pub(crate) fn of_cells(alloc: Global, cells: &ChangeRun) -> Option<Run>
-        ensures some { IfSome result (λ run. 0 < length run.points) }
-        ensures cells { IfSome result (λ run. AreAt run.row.kind run.row.name run.points (changes_in cells.now.form)) }
+        ensures some { IfSome result (λ run. 0 < length run.indices) }
+        ensures cells { IfSome result (λ run. AreAt run.row.kind run.row.name run.indices (changes_in cells.now.form)) }
         ensures marked { IfSome result (λ run. (m : Marking) (q : Place) →
-            marked_at m (changes_in cells.now.form) q ≡ run_marked m run.row.kind run.row.name run.points q) }
+            marked_at m (changes_in cells.now.form) q ≡ run_marked m run.row.kind run.row.name run.indices q) }
     {
         let run = Run::of_form(alloc, cells.form())?;
-        if run.points.len() == 0 {
+        if run.indices.len() == 0 {
             return None;
         }
         Some(run)
@@ -146,14 +150,14 @@ impl Run {
 
     // The run that cells are, in whichever order, if all are of one row, and there is memory; it may be of no cells.
     fn of_form(alloc: Global, form: &Form) -> Option<Run>
-        ensures { IfSome result (λ run. AreAt run.row.kind run.row.name run.points (changes_in form.now)) }
+        ensures { IfSome result (λ run. AreAt run.row.kind run.row.name run.indices (changes_in form.now)) }
     {
         match form {
             Form::One(_) => None,
             Form::Line(line) => packed_run(alloc, line),
             Form::Plane(plane) => packed_run(alloc, plane),
             Form::Solid(solid) => packed_run(alloc, solid),
-            Form::Labels(_) => None,
+            Form::Labels(labels) => labelled_run(alloc, labels),
             Form::Rectangle(rectangle) => Some(rectangle_run(rectangle)),
             Form::Numbers(rectangle) => numbers_run(rectangle),
         }
@@ -163,12 +167,12 @@ impl Run {
 // The run that packed cells are, if there is memory.
 fn packed_run<const R: usize>(alloc: Global, packed: &Packed<R>) -> Option<Run>
     requires { R ≤ 3 }
-    ensures { IfSome result (λ run. AreAt run.row.kind run.row.name run.points (packed_changes packed.now.row packed.now.changes.items)) }
+    ensures { IfSome result (λ run. AreAt run.row.kind run.row.name run.indices (packed_changes packed.now.row packed.now.changes.items)) }
 {
     let points = packed_points(alloc, packed.changes())?;
     Some(Run {
         row: Row::of(packed.row()),
-        points,
+        indices: Indices::points(points),
     })
 }
 
@@ -190,14 +194,65 @@ fn packed_points<const R: usize>(
     Some(Points::sorted(points))
 }
 
+// The label of an index, if it is one.
+fn label_of(index: &AnyIndex) -> Option<Label>
+    ensures { IfSome result (λ label. at_text label ≡ index.now) }
+{
+    match index.index() {
+        Index::Text(label) => Some(label),
+        Index::Point(_) => None,
+    }
+}
+
+// The label of the change at a place.
+fn label_at(changes: &LabelChanges, at: usize) -> Option<Label>
+    requires { at < length changes.now.1 }
+    ensures { IfSome result (λ label. (d : List ℕ × Option ℤ) → label ≡ (get_or changes.now.1 at d).0) }
+{
+    match changes.change(at).as_cell() {
+        Cell::In(_, index) => label_of(index),
+        Cell::Member(_, index) => label_of(index),
+        Cell::Element(_, index) => label_of(index),
+        Cell::Object(_) | Cell::Shape(_) | Cell::Mapping(_) | Cell::Use(_, _) | Cell::Implicit(_) =>
+            None,
+    }
+}
+
+// The labels of changes, if there is memory for them.
+fn labels_of(alloc: Global, changes: &LabelChanges) -> Option<LabelList>
+    ensures { IfSome result (λ list. list ≡ map (λ e. e.0) changes.now.1) }
+{
+    let mut list = LabelList::new(alloc);
+    for at in 0..changes.len() {
+        let label = label_at(changes, at)?;
+        match list.push_label(&label) {
+            Ok(()) => {}
+            Err(_) => return None,
+        }
+    }
+    Some(list)
+}
+
+// The run that the cells at labels are, if there is memory.
+fn labelled_run(alloc: Global, changes: &LabelChanges) -> Option<Run>
+    ensures { IfSome result (λ run. AreAt run.row.kind run.row.name run.indices (labelled_changes changes.now.0 changes.now.1)) }
+{
+    let list = labels_of(alloc, changes)?;
+    let labels = Labels::sorted(alloc, list)?;
+    Some(Run {
+        row: Row::of(changes.row()),
+        indices: Indices::labels(labels),
+    })
+}
+
 // The run that the cells at the indices of a rectangle are: as its ranges.
 fn rectangle_run(rectangle: &RectangleChanges) -> Run
-    ensures { AreAt result.row.kind result.row.name result.points
+    ensures { AreAt result.row.kind result.row.name result.indices
         (packed_changes rectangle.now.row (rectangle_entries rectangle.now.ranges rectangle.now.number)) }
 {
     Run {
         row: Row::of(rectangle.row()),
-        points: Points::within(rectangle.ranges()),
+        indices: Indices::points(Points::within(rectangle.ranges())),
     }
 }
 
@@ -210,7 +265,7 @@ fn is_full(rectangle: &RectangleNumbers) -> bool
 
 // The run that the cells at the indices of a rectangle are that get a number each, if each does: as its ranges.
 fn numbers_run(rectangle: &RectangleNumbers) -> Option<Run>
-    ensures { IfSome result (λ run. AreAt run.row.kind run.row.name run.points
+    ensures { IfSome result (λ run. AreAt run.row.kind run.row.name run.indices
         (packed_changes rectangle.now.row (numbered_entries rectangle.now.ranges rectangle.now.numbers.items))) }
 {
     if !is_full(rectangle) {
@@ -218,6 +273,6 @@ fn numbers_run(rectangle: &RectangleNumbers) -> Option<Run>
     }
     Some(Run {
         row: Row::of(rectangle.row()),
-        points: Points::within(rectangle.ranges()),
+        indices: Indices::points(Points::within(rectangle.ranges())),
     })
 }

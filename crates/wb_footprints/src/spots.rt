@@ -6,15 +6,15 @@ ghost use Rattle.std.specs.Cmp.Lexicographic.{slice_cmp};
 ghost use Rattle.std.specs.Ordering.{nat_cmp};
 ghost use Rattle.std.specs.List.{list_any};
 ghost use Rattle.wb_footprints.specs.Relation.{Sets, Clears, IsLeastAfter, JoinedAfter};
-ghost use Rattle.wb_footprints.specs.Points.{Coordinates};
+ghost use Rattle.wb_cells.specs.declared.values.index.Index.{Index};
 ghost use Rattle.wb_footprints.specs.Parts.{Spot, part_at};
 ghost use Rattle.wb_footprints.specs.Spots.{spot_marked, is_same_spot, in_spots};
 
 use crate::blocks::NewBlock;
+use crate::indices::Indices;
 use crate::name_marks::NameMarks;
 use crate::numbers::Numbers;
 use crate::part::{Kind, Part};
-use crate::points::Points;
 use std::alloc::Global;
 use std::collections::BTreeMap;
 use wb_cells::Name;
@@ -51,9 +51,9 @@ impl SpotMarks {
         self.put(name, marks)
     }
 
-    /// Adds a number at many points of the object of a name, and says whether it did.
+    /// Adds a number at many indices of the object of a name, and says whether it did.
     pub fn add_block(&mut self, name: Name, kind: Kind, block: NewBlock) -> bool
-        ensures { Sets (spot_marked self.old) (spot_marked self.new) (λ s. result && in_spots name kind block.points s) block.number true }
+        ensures { Sets (spot_marked self.old) (spot_marked self.new) (λ s. result && in_spots name kind block.indices s) block.number true }
     {
         if let Some(marks) = self.names.get_mut(&name) {
             return marks.add_block(kind, block);
@@ -88,9 +88,9 @@ impl SpotMarks {
         }
     }
 
-    /// Whether the number is seen to stand at no point of the kind, of the object of a name.
+    /// Whether the number is seen to stand at no index of the kind, of the object of a name.
     pub fn is_clear(&self, name: Name, kind: Kind, number: u64) -> bool
-        ensures { IsTrue result → (p : Coordinates) → spot_marked self.now (name, part_at kind p) number ≡ false }
+        ensures { IsTrue result → (p : Index) → spot_marked self.now (name, part_at kind p) number ≡ false }
     {
         match self.names.get(&name) {
             Some(marks) => marks.is_clear(kind, number),
@@ -98,12 +98,12 @@ impl SpotMarks {
         }
     }
 
-    /// The least number above `after` at one of several points of the kind, of the object of a name.
-    pub fn least_in(&self, name: Name, kind: Kind, points: &Points, after: u64) -> Option<u64>
-        ensures { IsLeastAfter (λ n. list_any (λ p. spot_marked self.now (name, part_at kind p) n) points.now) after result }
+    /// The least number above `after` at one of several indices of the kind, of the object of a name.
+    pub fn least_in(&self, name: Name, kind: Kind, indices: &Indices, after: u64) -> Option<u64>
+        ensures { IsLeastAfter (λ n. list_any (λ p. spot_marked self.now (name, part_at kind p) n) indices.now) after result }
     {
         match self.names.get(&name) {
-            Some(marks) => marks.least_in(kind, points, after),
+            Some(marks) => marks.least_in(kind, indices, after),
             None => None,
         }
     }
@@ -118,20 +118,20 @@ impl SpotMarks {
         }
     }
 
-    /// Those above `after` at one of several points of the kind, of the object of a name, join the numbers that wait.
+    /// Those above `after` at one of several indices of the kind, of the object of a name, join the numbers that wait.
     pub fn join_in(
         &self,
         name: Name,
         kind: Kind,
-        points: &Points,
+        indices: &Indices,
         after: u64,
         waiting: &mut Numbers,
     ) -> Result<(), NoMemory>
         ensures { OnOk result (JoinedAfter waiting.old waiting.new
-            (λ n. list_any (λ p. spot_marked self.now (name, part_at kind p) n) points.now) after) }
+            (λ n. list_any (λ p. spot_marked self.now (name, part_at kind p) n) indices.now) after) }
     {
         match self.names.get(&name) {
-            Some(marks) => marks.join_in(kind, points, after, waiting),
+            Some(marks) => marks.join_in(kind, indices, after, waiting),
             None => Ok(()),
         }
     }

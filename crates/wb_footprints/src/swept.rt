@@ -8,16 +8,21 @@ ghost use Rattle.wb_footprints.specs.declared.foot_index.FootIndex.{FootIndex};
 ghost use Rattle.wb_footprints.specs.declared.numbers.Numbers.{Numbers};
 ghost use Rattle.wb_footprints.specs.Marks.{marked};
 ghost use Rattle.wb_footprints.specs.Places.{family};
-ghost use Rattle.wb_footprints.specs.Points.{Coordinates};
+ghost use Rattle.wb_cells.specs.declared.values.index.Index.{Index};
+ghost use Rattle.wb_cells.specs.declared.values.index.Index.TheVariants.{Point as at_point, Text as at_text};
 ghost use Rattle.wb_footprints.specs.Relation.{Sets};
 ghost use Rattle.wb_footprints.specs.Swept.{AreSwept, AreWaiting, FailsBehind};
 
+use crate::indices::{HeldIndices, Indices};
+use crate::label_list::LabelList;
+use crate::labels::Labels;
 use crate::marks::Marks;
 use crate::points::Points;
 use crate::runs::{Row, Run};
 use std::alloc::Global;
 use wb_cells::{AnyIndex, Cell, Index, Point};
 use wb_range::NoMemory;
+use wb_sets::Label;
 
 // So many runs at most are kept whole: each run that comes is compared with them.
 const MOST: usize = 64;
@@ -95,7 +100,7 @@ impl SweptCells {
     /// The sweep keeps a run whole of whose cells all wait, as long as it has room for one.
     pub(crate) fn keep(&mut self, run: Run) -> Result<(), NoMemory>
         ensures { OnOk result ((index : FootIndex) (waiting : Numbers) (after : ℕ) → AreSwept index self.old waiting after →
-            AreWaiting index run.row.kind run.row.name run.points waiting after → AreSwept index self.new waiting after) }
+            AreWaiting index run.row.kind run.row.name run.indices waiting after → AreSwept index self.new waiting after) }
     {
         if self.runs.len() >= MOST {
             return Ok(());
@@ -109,21 +114,22 @@ impl SweptCells {
     /// The sweep goes through the cells of a run.
     pub(crate) fn add_run(&mut self, run: &Run) -> Result<(), NoMemory>
         ensures { OnOk result ((index : FootIndex) (waiting : Numbers) (after : ℕ) → AreSwept index self.old waiting after →
-            AreWaiting index run.now.row.kind run.now.row.name run.now.points waiting after → AreSwept index self.new waiting after) }
+            AreWaiting index run.now.row.kind run.now.row.name run.now.indices waiting after → AreSwept index self.new waiting after) }
     {
-        for at in 0..run.points.len() {
-            let point = run.points.point(at);
-            self.add(&run.row.cell(&point))?;
+        for at in 0..run.indices.len() {
+            let index = run.indices.index(at);
+            self.add(&run.row.cell(&index))?;
         }
         Ok(())
     }
 
     // Adds a point to others where the sweep did not go through its cell.
-    fn add_new(&self, row: &Row, point: &Point, points: &mut Vec<Point>) -> Result<(), NoMemory>
-        ensures { OnOk result ((f : Coordinates → Bool) → FailsBehind self.now row.now.kind row.now.name f →
-            list_any f points.new.items ≡ (list_any f points.old.items || f point.now)) }
+    fn add_point(&self, row: &Row, point: &Point, points: &mut Vec<Point>) -> Result<(), NoMemory>
+        ensures { OnOk result ((f : Index → Bool) → FailsBehind self.now row.now.kind row.now.name f →
+            list_any (λ p. f (at_point p)) points.new.items ≡ (list_any (λ p. f (at_point p)) points.old.items || f (at_point point.now))) }
     {
-        if self.has(&row.cell(point)) {
+        let index = AnyIndex::new(Index::Point(*point));
+        if self.has(&row.cell(&index)) {
             return Ok(());
         }
         match points.push(*point) {
@@ -132,19 +138,63 @@ impl SweptCells {
         }
     }
 
-    /// The points of a run whose cells the sweep did not go through, if there is memory for them.
-    pub(crate) fn new_points(&self, alloc: Global, run: &Run) -> Option<Points>
-        ensures { IfSome result (λ ps. (f : Coordinates → Bool) → FailsBehind self.now run.now.row.kind run.now.row.name f →
-            list_any f ps ≡ list_any f run.now.points) }
+    // Those of the points of a row whose cells the sweep did not go through, if there is memory for them.
+    fn new_points(&self, alloc: Global, row: &Row, all: &Points) -> Option<Points>
+        ensures { IfSome result (λ ps. (f : Index → Bool) → FailsBehind self.now row.now.kind row.now.name f →
+            list_any (λ p. f (at_point p)) ps ≡ list_any (λ p. f (at_point p)) all.now) }
     {
         let mut points = Vec::new(alloc);
-        for at in 0..run.points.len() {
-            match self.add_new(&run.row, &run.points.point(at), &mut points) {
+        for at in 0..all.len() {
+            match self.add_point(row, &all.point(at), &mut points) {
                 Ok(()) => {}
                 Err(_) => return None,
             }
         }
         Some(Points::sorted(points))
+    }
+
+    // Adds a label to others where the sweep did not go through its cell.
+    fn add_label(&self, row: &Row, label: &Label, list: &mut LabelList) -> Result<(), NoMemory>
+        ensures { OnOk result ((f : Index → Bool) → FailsBehind self.now row.now.kind row.now.name f →
+            list_any (λ t. f (at_text t)) list.new ≡ (list_any (λ t. f (at_text t)) list.old || f (at_text label.now))) }
+    {
+        let index = AnyIndex::new(Index::Text(*label));
+        if self.has(&row.cell(&index)) {
+            return Ok(());
+        }
+        list.push_label(label)
+    }
+
+    // Those of the labels of a row whose cells the sweep did not go through, if there is memory for them.
+    fn new_labels(&self, alloc: Global, row: &Row, all: &Labels) -> Option<Labels>
+        ensures { IfSome result (λ ts. (f : Index → Bool) → FailsBehind self.now row.now.kind row.now.name f →
+            list_any (λ t. f (at_text t)) ts ≡ list_any (λ t. f (at_text t)) all.now) }
+    {
+        let mut list = LabelList::new(alloc);
+        for at in 0..all.len() {
+            match self.add_label(row, &all.label(at), &mut list) {
+                Ok(()) => {}
+                Err(_) => return None,
+            }
+        }
+        Labels::sorted(alloc, list)
+    }
+
+    /// The indices of a run whose cells the sweep did not go through, if there is memory for them.
+    pub(crate) fn new_indices(&self, alloc: Global, run: &Run) -> Option<Indices>
+        ensures { IfSome result (λ is. (f : Index → Bool) → FailsBehind self.now run.now.row.kind run.now.row.name f →
+            list_any f is ≡ list_any f run.now.indices) }
+    {
+        match run.indices.held() {
+            HeldIndices::Points(points) => {
+                let points_left = self.new_points(alloc, &run.row, points)?;
+                Some(Indices::points(points_left))
+            }
+            HeldIndices::Labels(labels) => {
+                let labels_left = self.new_labels(alloc, &run.row, labels)?;
+                Some(Indices::labels(labels_left))
+            }
+        }
     }
 }
 

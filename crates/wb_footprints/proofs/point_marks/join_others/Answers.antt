@@ -2,6 +2,7 @@ use Rattle.std.proofs.Common.{sym, ℕ, Bool, ◌≤◌, false, length, refl, ar
 use Rattle.std.proofs.lemmas.Option.{get_or_from_slice_get}
 use Rattle.wb_footprints.specs.Marks.{marked}
 use Rattle.wb_footprints.specs.Points.{Coordinates, point_cmp}
+use Rattle.wb_footprints.proofs.InBlocks.{points_total, points_exact}
 use Rattle.wb_footprints.proofs.Joining.{none_joined, walked, all_joined}
 use Rattle.wb_footprints.proofs.point_marks.join_others.Goals as goal
 
@@ -15,7 +16,7 @@ loop-at-preserved c =
     let below = rw c.len-count.ensures.value at c.loop-at-test.true in
     record {
       within = c.next_other-at.ensures.within;
-      joined = walked f c.args.after c.args.waiting.now c.loop-at.waiting c.join_after.new.waiting c.args.points.now c.loop-at.at c.next_other-at.result
+      joined = walked point_cmp points_total points_exact f c.args.after c.args.waiting.now c.loop-at.waiting c.join_after.new.waiting c.args.points.now c.loop-at.at c.next_other-at.result
           c.point-point.result below is c.next_other-at.ensures.behind c.next_other-at.ensures.within c.next_other-at.ensures.none
           c.loop-at.invariant.joined c.in_ok-join_after.ensures;
     }

@@ -8,6 +8,7 @@ use Rattle.std.specs.declared.cmp.Ordering.TheVariants.{Less}
 use Rattle.wb_footprints.specs.Marks.{pair_cmp, marked}
 use Rattle.wb_footprints.specs.PointMarks.{at_single}
 use Rattle.wb_footprints.specs.Points.{Coordinates, point_cmp}
+use Rattle.wb_footprints.proofs.InBlocks.{points_total, points_exact}
 use Rattle.wb_footprints.proofs.AtPoints.{all_least}
 use Rattle.wb_footprints.proofs.AtMarks.{least_here, next_least, none_left, past_one}
 use Rattle.wb_footprints.proofs.Singles.{is_single, none_at_others, none_before, none_behind, single_up}
@@ -23,7 +24,7 @@ loop-at-preserved-in-None c =
     let below = rw c.len-count.ensures.value at c.loop-at-test.true in
     record {
       within = omega (arith, below);
-      least = past_one f c.args.after ps c.loop-at.at p c.loop-at.first below is (λ n up. none_at_others m p n (sym c.coordinate_of.ensures ∙ c.in-None.is))
+      least = past_one point_cmp points_total points_exact f c.args.after ps c.loop-at.at p c.loop-at.first below is (λ n up. none_at_others m p n (sym c.coordinate_of.ensures ∙ c.in-None.is))
           c.loop-at.invariant.least;
     }
 
@@ -40,7 +41,7 @@ returns-in-None-first_behind c =
     subst (λ (x : Coordinates). (q : Coordinates) (n : ℕ) → pair_cmp point_cmp (x, c.args.after) (q, n) ≡ Less → f q n ≡ false) (sym single)
     (none_behind m i c.args.after (subst (λ (v : ℤ). (x : ℤ) (n : ℕ) → pair_cmp int_cmp (v, c.args.after) (x, n) ≡ Less → marked int_cmp m x n ≡ false)
     (to_z-of_z w64 i (search rules)) c.in-None-first_behind.ensures.none)) in
-    none_left f c.args.after c.args.points.now c.loop-at.at p c.loop-at.first c.len-count.ensures.ascending below is none c.loop-at.invariant.least
+    none_left point_cmp points_total points_exact f c.args.after c.args.points.now c.loop-at.at p c.loop-at.first c.len-count.ensures.ascending below is none c.loop-at.invariant.least
 
 pub loop-at-preserved : goal.loop-at-preserved
 loop-at-preserved c =
@@ -70,10 +71,10 @@ loop-at-preserved c =
     f q n ≡ false) (sym single) (subst (λ (y : Coordinates). (q : Coordinates) (n : ℕ) → pair_cmp point_cmp (i ∷ [], after) (q, n) ≡ Less →
     pair_cmp point_cmp (q, n) (y, mark.1) ≡ Less → f q n ≡ false) (sym next) (none_before m i after mark.0 mark.1 first)) in
     let here : IsLeastAfter (f p) after c.number_at.result = subst (λ (r : Option ℕ). IsLeastAfter (f p) after r) (sym c.number_at.ensures)
-    (least_here f after p k mark.1 up its none (eq_by_cmp point_cmp k p) refl) in
+    (least_here point_cmp points_total points_exact f after p k mark.1 up its none (eq_by_cmp point_cmp k p) refl) in
     record {
       within = c.place_from-at.ensures.within;
-      least = next_least f after ps at c.place_from-at.result p k mark.1 c.len-count.ensures.ascending below is c.place_from-at.ensures.from
+      least = next_least point_cmp points_total points_exact f after ps at c.place_from-at.result p k mark.1 c.len-count.ensures.ascending below is c.place_from-at.ensures.from
           c.place_from-at.ensures.within none c.place_from-at.ensures.below c.earlier-first.result
           (c.earlier-first.ensures.least (λ n. list_any (λ q. f q n) (take at ps)) (f p) after c.loop-at.invariant.least here);
     }

@@ -6,6 +6,7 @@ use Rattle.std.specs.declared.cmp.Ordering.TheVariants.{Less}
 use Rattle.wb_footprints.specs.Marks.{pair_cmp, marked}
 use Rattle.wb_footprints.specs.PointMarks.{at_single}
 use Rattle.wb_footprints.specs.Points.{Coordinates, point_cmp}
+use Rattle.wb_footprints.proofs.InBlocks.{points_total, points_exact}
 use Rattle.wb_footprints.proofs.Joining.{none_between, none_after}
 use Rattle.wb_footprints.proofs.Singles.{is_single, none_before, none_behind}
 use Rattle.wb_footprints.proofs.point_marks.next_single.Goals as goal
@@ -24,7 +25,7 @@ returns-in-None-first_behind-clause-none c =
     subst (λ (x : Coordinates). (q : Coordinates) (n : ℕ) → pair_cmp point_cmp (x, c.args.after) (q, n) ≡ Less → f q n ≡ false) (sym single)
     (none_behind m i c.args.after (subst (λ (v : ℤ). (x : ℤ) (n : ℕ) → pair_cmp int_cmp (v, c.args.after) (x, n) ≡ Less → marked int_cmp m x n ≡ false)
     (to_z-of_z w64 i (search rules)) c.in-None-first_behind.ensures.none)) in
-    none_after f c.args.after ps c.args.at c.len-count.result p c.len-count.ensures.ascending c.requires is high none
+    none_after point_cmp points_total points_exact f c.args.after ps c.args.at c.len-count.result p c.len-count.ensures.ascending c.requires is high none
 
 pub returns-in-Some-first_behind-clause-none : goal.returns-in-Some-first_behind-clause-none
 returns-in-Some-first_behind-clause-none c =
@@ -45,5 +46,5 @@ returns-in-Some-first_behind-clause-none c =
     subst (λ (x : Coordinates). (q : Coordinates) (n : ℕ) → pair_cmp point_cmp (x, after) (q, n) ≡ Less → pair_cmp point_cmp (q, n) (k, mark.1) ≡ Less →
     f q n ≡ false) (sym single) (subst (λ (y : Coordinates). (q : Coordinates) (n : ℕ) → pair_cmp point_cmp (i ∷ [], after) (q, n) ≡ Less →
     pair_cmp point_cmp (q, n) (y, mark.1) ≡ Less → f q n ≡ false) (sym next) (none_before m i after mark.0 mark.1 first)) in
-    none_between f after c.args.points.now c.args.at c.place_from.result p k mark.1 c.len-count.ensures.ascending c.requires is
+    none_between point_cmp points_total points_exact f after c.args.points.now c.args.at c.place_from.result p k mark.1 c.len-count.ensures.ascending c.requires is
     c.place_from.ensures.within none c.place_from.ensures.below

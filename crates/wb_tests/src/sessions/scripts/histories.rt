@@ -323,8 +323,40 @@ const ARRAYS_OF_MANY_ELEMENTS: &str = r#"
 {"op":"get","a":"B","i":1} -> {"value":3}
 "#;
 
+// So many labels that the index keeps what each edit read and wrote as blocks.
+const MANY_LABELS: &str = r#"
+{"op":"assoc","d":"N","of":"text"} -> {"edit":1,"n":1}
+{"op":"array","a":"A","d":"N"} -> {"edit":2,"n":3}
+{"op":"array","a":"B","d":"N"} -> {"edit":3,"n":3}
+{"op":"reshape","d":"N","or":"{\"a0\", \"a1\", \"a2\", \"a3\", \"a4\", \"a5\", \"a6\", \"a7\", \"a8\", \"a9\", \"b0\", \"b1\", \"b2\", \"b3\", \"b4\", \"b5\", \"b6\", \"b7\", \"b8\", \"b9\", \"c0\", \"c1\", \"c2\", \"c3\", \"c4\", \"c5\", \"c6\", \"c7\", \"c8\", \"c9\", \"d0\", \"d1\", \"d2\", \"d3\", \"d4\", \"d5\", \"d6\", \"d7\", \"d8\", \"d9\", \"e0\", \"e1\", \"e2\", \"e3\", \"e4\", \"e5\", \"e6\", \"e7\", \"e8\", \"e9\", \"f0\", \"f1\", \"f2\", \"f3\", \"f4\", \"f5\", \"f6\", \"f7\", \"f8\", \"f9\", \"g0\", \"g1\", \"g2\", \"g3\", \"g4\", \"g5\", \"g6\", \"g7\", \"g8\", \"g9\"}"} -> {"edit":4,"n":210}
+{"op":"reshape","d":"N","or":"{\"h0\", \"h1\", \"h2\", \"h3\", \"h4\", \"h5\", \"h6\", \"h7\", \"h8\", \"h9\", \"i0\", \"i1\", \"i2\", \"i3\", \"i4\", \"i5\", \"i6\", \"i7\", \"i8\", \"i9\", \"j0\", \"j1\", \"j2\", \"j3\", \"j4\", \"j5\", \"j6\", \"j7\", \"j8\", \"j9\", \"k0\", \"k1\", \"k2\", \"k3\", \"k4\", \"k5\", \"k6\", \"k7\", \"k8\", \"k9\", \"l0\", \"l1\", \"l2\", \"l3\", \"l4\", \"l5\", \"l6\", \"l7\", \"l8\", \"l9\", \"m0\", \"m1\", \"m2\", \"m3\", \"m4\", \"m5\", \"m6\", \"m7\", \"m8\", \"m9\", \"n0\", \"n1\", \"n2\", \"n3\", \"n4\", \"n5\", \"n6\", \"n7\", \"n8\", \"n9\"}"} -> {"edit":5,"n":210}
+{"op":"fill_all","a":"A","v":4} -> {"edit":6,"n":140}
+{"op":"set","a":"A","i":"a5","v":9} -> {"edit":7,"n":1}
+{"op":"undo","k":6} -> {"by":7,"error":"E14","name":"blocked"}
+{"op":"undo","k":5} -> {"by":6,"error":"E14","name":"blocked"}
+{"op":"undo","k":4} -> {"by":5,"error":"E14","name":"blocked"}
+{"op":"fill_all","a":"B","v":3} -> {"edit":8,"n":140}
+{"op":"all","a":"A","how":"+","b":"B"} -> {"edit":9,"n":140}
+{"op":"get","a":"A","i":"a5"} -> {"value":12}
+{"op":"undo","k":8} -> {"by":9,"error":"E14","name":"blocked"}
+{"op":"undo","k":7} -> {"by":9,"error":"E14","name":"blocked"}
+{"op":"undo","k":9} -> {"n":140,"undone":9}
+{"op":"get","a":"A","i":"n9"} -> {"value":4}
+{"op":"undo","k":7} -> {"n":1,"undone":7}
+{"op":"undo","k":6} -> {"n":140,"undone":6}
+{"op":"get","a":"A","i":"a5"} -> {"value":0}
+{"op":"redo","k":9} -> {"n":140,"redone":9}
+{"op":"get","a":"A","i":"a5"} -> {"value":3}
+{"op":"cascade","k":8} -> {"n":280,"undone":[9,8]}
+{"op":"remove","d":"N","i":"c3"} -> {"edit":10,"n":3}
+{"op":"undo","k":10} -> {"n":3,"undone":10}
+{"op":"undo","k":5} -> {"n":210,"undone":5}
+{"op":"undo","k":4} -> {"n":210,"undone":4}
+{"op":"size","d":"N"} -> {"size":0}
+"#;
+
 /// Each script, over a history of its own.
-pub const SCRIPTS: [Script; 19] = [
+pub const SCRIPTS: [Script; 20] = [
     ("", UNDONE_AND_REDONE, 6, 44),
     (OPENING, REFUSED, 2, 10),
     (OPENING, SIZES, 3, 16),
@@ -344,4 +376,5 @@ pub const SCRIPTS: [Script; 19] = [
     ("", FILLS_OF_ONE_ELEMENT, 6, 21),
     ("", RUNS_OF_MANY_CELLS, 8, 1116),
     ("", ARRAYS_OF_MANY_ELEMENTS, 7, 911),
+    ("", MANY_LABELS, 10, 1975),
 ];

@@ -10,7 +10,7 @@ loop-marks-init c = none_joined c.args.waiting.now (λ n. false) c.args.after (�
 
 pub loop-marks-preserved : goal.loop-marks-preserved
 loop-marks-preserved c =
-    let ps = c.args.points.now in
+    let ps = c.args.indices.now in
     let r = c.marks-item.result in
     let is = rw c.deref-marks-items.ensures.value at c.marks-item.is in
     let below = rw c.deref-marks-items.ensures.value at c.loop-marks-test.true in
@@ -20,7 +20,7 @@ loop-marks-preserved c =
 pub returns : goal.returns
 returns c =
     let rs = c.args.self.now.reaches.items in
-    let ps = c.args.points.now in
+    let ps = c.args.indices.now in
     let test = rw c.deref-marks-items.ensures.value at c.loop-marks-test.false in
     let high : length rs ≤ c.loop-marks.marks-index = omega (arith, test) in
     joined_like c.args.waiting.now c.loop-marks.waiting (λ n. list_any (λ r. asked ps r n) rs) (λ n. list_any (λ p. in_reaches rs p n) ps) c.args.after (asked_all rs ps)

@@ -10,7 +10,7 @@ pub loop-marks-preserved : goal.loop-marks-preserved
 loop-marks-preserved c =
     let rs = c.args.self.now.reaches.items in
     let i = c.loop-marks.marks-index in
-    let ps = c.args.points.now in
+    let ps = c.args.indices.now in
     let is = rw c.deref-marks-items.ensures.value at c.marks-item.is in
     let below = rw c.deref-marks-items.ensures.value at c.loop-marks-test.true in
     one_more (asked ps) rs i c.args.after c.marks-item.result below c.marks-item.result is c.earlier-first.result
@@ -19,7 +19,7 @@ loop-marks-preserved c =
 pub returns : goal.returns
 returns c =
     let rs = c.args.self.now.reaches.items in
-    let ps = c.args.points.now in
+    let ps = c.args.indices.now in
     let test = rw c.deref-marks-items.ensures.value at c.loop-marks-test.false in
     let high : length rs ≤ c.loop-marks.marks-index = omega (arith, test) in
     least_like (λ n. list_any (λ r. asked ps r n) rs) (λ n. list_any (λ p. in_reaches rs p n) ps) c.args.after c.loop-marks.first (asked_all rs ps)

@@ -1,5 +1,5 @@
 use Rattle.std.proofs.Common.{rules}
-use Rattle.wb_footprints.specs.Points.{in_points}
+use Rattle.wb_footprints.specs.Indices.{in_indices}
 use Rattle.wb_footprints.proofs.InBlocks.{number_set, number_same}
 use Rattle.wb_footprints.proofs.blocks.Blocks.add_at.Goals as goal
 
@@ -9,4 +9,4 @@ returns-in-Ok c = λ ps h. number_set c.args.self.now.list.items c.args.place c.
 
 pub returns-in-Err : goal.returns-in-Err
 returns-in-Err c = λ ps h. number_same c.args.self.now.list.items c.args.place c.args.number c.index_mut.result.now c.add.new.self
-    (search rules) (search rules) c.in-Err.ensures.err (in_points ps)
+    (search rules) (search rules) c.in-Err.ensures.err (in_indices ps)

@@ -5,4 +5,4 @@ use Rattle.wb_footprints.specs.Blocks.{in_blocks}
 use Rattle.wb_footprints.proofs.blocks.Blocks.least_in.Given as goal
 
 abbrev pub invariant-loop-block : goal.invariant-loop-block
-invariant-loop-block l = IsLeastAfter (λ n. list_any (λ p. in_blocks (take l.block-index l.self.list.items) p n) l.points) l.after l.first
+invariant-loop-block l = IsLeastAfter (λ n. list_any (λ p. in_blocks (take l.block-index l.self.list.items) p n) l.indices) l.after l.first

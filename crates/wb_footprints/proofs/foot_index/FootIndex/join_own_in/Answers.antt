@@ -14,6 +14,6 @@ returns-in-Some-clause-joined c =
     let xs = changes_in c.args.cells.now.form in
     on_ok_weaker c.join_own_run.result
     (λ h. joined_like c.args.waiting.now c.join_own_run.new.waiting
-    (λ n. list_any (λ p. marked_own m (cell_at run.row.kind run.row.name p) n) run.points) (λ n. list_any (λ x. marked_own m x.cell n) xs) c.args.after
-    (λ n. any_cell (λ k. marked_own m k n) xs run.row.kind run.row.name run.points c.in-Some.ensures.cells) h)
+    (λ n. list_any (λ p. marked_own m (cell_at run.row.kind run.row.name p) n) run.indices) (λ n. list_any (λ x. marked_own m x.cell n) xs) c.args.after
+    (λ n. any_cell (λ k. marked_own m k n) xs run.row.kind run.row.name run.indices c.in-Some.ensures.cells) h)
     c.join_own_run.ensures.joined

@@ -9,6 +9,6 @@ returns c =
     let run = c.args.run.now in
     on_ok_weaker c.join_in-2.result
     (λ h. both_joined (λ p n. place_marked m.touched (own (cell_at run.row.kind run.row.name p)) n) c.args.after
-    (λ p n. place_marked m.read (own (cell_at run.row.kind run.row.name p)) n) c.args.waiting.now c.join_in.new.waiting c.join_in-2.new.waiting run.points
+    (λ p n. place_marked m.read (own (cell_at run.row.kind run.row.name p)) n) c.args.waiting.now c.join_in.new.waiting c.join_in-2.new.waiting run.indices
     c.in_ok-join_in.ensures h)
     c.join_in-2.ensures

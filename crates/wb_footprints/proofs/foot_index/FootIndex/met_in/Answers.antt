@@ -14,10 +14,10 @@ use Rattle.wb_footprints.proofs.foot_index.FootIndex.met_in.Goals as goal
 pub returns-in-Some-clause-least : goal.returns-in-Some-clause-least
 returns-in-Some-clause-least c = λ footprints h.
     let run = c.in-Some.run' in
-    least_like (λ n. list_any (λ p. met_by (footprints n) (cell_at run.row.kind run.row.name p)) run.points)
-    (λ n. any_met (footprints n) (changes_in c.args.cells.now.form)) c.args.after c.met_at_points.result
-    (λ n. any_cell (met_by (footprints n)) (changes_in c.args.cells.now.form) run.row.kind run.row.name run.points c.in-Some.ensures.cells)
-    (c.met_at_points.ensures.least footprints h)
+    least_like (λ n. list_any (λ p. met_by (footprints n) (cell_at run.row.kind run.row.name p)) run.indices)
+    (λ n. any_met (footprints n) (changes_in c.args.cells.now.form)) c.args.after c.met_together.result
+    (λ n. any_cell (met_by (footprints n)) (changes_in c.args.cells.now.form) run.row.kind run.row.name run.indices c.in-Some.ensures.cells)
+    (c.met_together.ensures.least footprints h)
 
 pub returns-then-is_next-clause-least : goal.returns-then-is_next-clause-least
 returns-then-is_next-clause-least c = λ footprints h.

@@ -15,10 +15,10 @@ pub returns-in-Some : goal.returns-in-Some
 returns-in-Some c = λ footprints h.
     let run = c.in-Some.run' in
     let xs = changes_in c.args.cells.now.form in
-    least_like (λ n. list_any (λ p. touched_by (footprints n) (own (cell_at run.row.kind run.row.name p))) run.points)
-    (λ n. list_any (λ x. touched_by (footprints n) (own x.cell)) xs) c.args.after c.touched_at_points.result
-    (λ n. any_cell (λ x. touched_by (footprints n) (own x)) xs run.row.kind run.row.name run.points c.in-Some.ensures.cells)
-    (c.touched_at_points.ensures footprints h)
+    least_like (λ n. list_any (λ p. touched_by (footprints n) (own (cell_at run.row.kind run.row.name p))) run.indices)
+    (λ n. list_any (λ x. touched_by (footprints n) (own x.cell)) xs) c.args.after c.touched_together.result
+    (λ n. any_cell (λ x. touched_by (footprints n) (own x)) xs run.row.kind run.row.name run.indices c.in-Some.ensures.cells)
+    (c.touched_together.ensures footprints h)
 
 pub returns-then-is_next : goal.returns-then-is_next
 returns-then-is_next c = λ footprints h.

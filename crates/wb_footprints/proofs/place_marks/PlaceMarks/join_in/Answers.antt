@@ -14,5 +14,5 @@ returns c =
     on_ok_weaker c.join_in.result
     (λ h. same_joined (λ p n. spot_marked m.spots (row.name, part_at row.kind p) n) c.args.after
     (λ p n. place_marked m (own (cell_at row.kind row.name p)) n) (λ p n. ap (λ q. place_marked m q n) (own_at row.kind row.name p)) c.args.waiting.now
-    c.join_in.new.waiting c.args.points.now h)
+    c.join_in.new.waiting c.args.indices.now h)
     c.join_in.ensures

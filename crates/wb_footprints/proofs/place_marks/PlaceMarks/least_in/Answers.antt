@@ -11,4 +11,4 @@ returns c =
     let m = c.args.self.now in
     let row = c.args.row.now in
     same_least (λ p n. spot_marked m.spots (row.name, part_at row.kind p) n) (λ p n. place_marked m (own (cell_at row.kind row.name p)) n)
-    (λ p n. ap (λ q. place_marked m q n) (own_at row.kind row.name p)) c.args.points.now c.args.after c.least_in.result c.least_in.ensures
+    (λ p n. ap (λ q. place_marked m q n) (own_at row.kind row.name p)) c.args.indices.now c.args.after c.least_in.result c.least_in.ensures

@@ -1,4 +1,6 @@
 use Rattle.std.proofs.Common.{arith}
+use Rattle.wb_footprints.specs.Points.{point_cmp}
+use Rattle.wb_footprints.proofs.InBlocks.{points_total, points_exact}
 use Rattle.wb_footprints.proofs.AtMarks.{below_both}
 use Rattle.wb_footprints.proofs.points.Points.place_from.Goals as goal
 
@@ -15,5 +17,5 @@ loop-low-preserved c = record {
   from = omega (arith, c.loop-low.invariant.from, c.half-half.ensures.from);
   order = c.half-half.ensures.order;
   within = omega (arith, c.loop-low.invariant.within, c.half-half.ensures.within);
-  below = below_both c.args.self.now c.args.point.now c.args.from c.loop-low.low c.half-half.result.0 c.loop-low.invariant.below c.half-half.ensures.below;
+  below = below_both point_cmp points_total points_exact c.args.self.now c.args.point.now c.args.from c.loop-low.low c.half-half.result.0 c.loop-low.invariant.below c.half-half.ensures.below;
 }

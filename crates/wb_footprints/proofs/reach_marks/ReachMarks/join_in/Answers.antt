@@ -10,7 +10,7 @@ use Rattle.wb_footprints.proofs.reach_marks.ReachMarks.join_in.Goals as goal
 pub loop-blocks-init : goal.loop-blocks-init
 loop-blocks-init c =
     let marks = c.args.self.now in
-    let ps = c.args.points.now in
+    let ps = c.args.indices.now in
     let es = marks.groups.entries in
     let left = c.into_iter-blocks-iterator.result in
     let between = c.range-blocks-items.ensures.between tt in
@@ -20,7 +20,7 @@ loop-blocks-init c =
 
 pub loop-blocks-preserved : goal.loop-blocks-preserved
 loop-blocks-preserved c =
-    let ps = c.args.points.now in
+    let ps = c.args.indices.now in
     let all : ℕ → Bool = λ n. list_any (λ p. in_groups c.args.self.now.groups.entries p n) ps in
     let rest : List (ℕ × Blocks) = c.next.new.self in
     let g : ℕ × Blocks = (c.in-Some.field-0-0.now, c.in-Some.blocks.now) in
@@ -31,7 +31,7 @@ loop-blocks-preserved c =
 
 pub returns : goal.returns
 returns c =
-    let ps = c.args.points.now in
+    let ps = c.args.indices.now in
     let all : ℕ → Bool = λ n. list_any (λ p. in_groups c.args.self.now.groups.entries p n) ps in
     none_left c.args.waiting.now c.loop-blocks.waiting all c.args.after
     (subst (λ (gs : List (ℕ × Blocks)). IsLeftToJoin c.args.waiting.now c.loop-blocks.waiting (any_asked ps gs) all c.args.after) c.in-None.ensures.steps.0

@@ -1,4 +1,4 @@
-use Rattle.wb_footprints.specs.Keys.{key_of}
+use Rattle.wb_footprints.specs.Keys.{index_key}
 use Rattle.wb_footprints.proofs.InReach.{forward, near}
 use Rattle.wb_footprints.proofs.reach_marks.ReachMarks.near.Goals as goal
 
@@ -8,4 +8,4 @@ returns-clause-forward c = rw c.saturating_sub.ensures (forward c.ends-low.resul
 pub returns-clause-all : goal.returns-clause-all
 returns-clause-all c = λ p k there low high.
     let within = c.ends-low.ensures.within p there in
-    rw c.saturating_sub.ensures (near c.ends-low.result.0 c.ends-low.result.1 c.args.self.now.reach k (key_of p) low high within.0 within.1)
+    rw c.saturating_sub.ensures (near c.ends-low.result.0 c.ends-low.result.1 c.args.self.now.reach k (index_key p) low high within.0 within.1)

@@ -8,5 +8,5 @@ use Rattle.wb_footprints.proofs.runs.Run.of_cells.Goals as goal
 pub returns-clause-marked : goal.returns-clause-marked
 returns-clause-marked c = λ m q.
     let run = c.in_ok-run.run' in
-    any_cell (λ x. at_cell m x q) (changes_in c.args.cells.now.form) run.row.kind run.row.name run.points
+    any_cell (λ x. at_cell m x q) (changes_in c.args.cells.now.form) run.row.kind run.row.name run.indices
     (λ t. ap (λ f. list_any t (cells_of (changes_in f))) (sym c.form.ensures) ∙ c.in_ok-run.ensures t)

@@ -11,11 +11,11 @@ returns-in-Some c =
     let kind = c.args.kind in
     on_ok_weaker c.join_in.result
     (λ h. same_joined (λ p n. part_marked m (part_at kind p) n) c.args.after (λ p n. spot_marked c.args.self.now (c.args.name, part_at kind p) n)
-    (λ p n. ap (λ o. at_name o (part_at kind p) n) (sym c.in-Some.ensures.value)) c.args.waiting.now c.join_in.new.waiting c.args.points.now h)
+    (λ p n. ap (λ o. at_name o (part_at kind p) n) (sym c.in-Some.ensures.value)) c.args.waiting.now c.join_in.new.waiting c.args.indices.now h)
     c.join_in.ensures
 
 pub returns-in-None : goal.returns-in-None
 returns-in-None c =
     let kind = c.args.kind in
     nowhere_joined (λ p n. spot_marked c.args.self.now (c.args.name, part_at kind p) n) c.args.after
-    (λ p n. ap (λ o. at_name o (part_at kind p) n) (sym c.in-None.ensures.value)) c.args.waiting.now c.args.points.now
+    (λ p n. ap (λ o. at_name o (part_at kind p) n) (sym c.in-None.ensures.value)) c.args.waiting.now c.args.indices.now

@@ -10,9 +10,9 @@ pub loop-at-preserved : goal.loop-at-preserved
 loop-at-preserved c = λ index waiting after h waits.
     let run = c.args.run.now in
     let i = c.loop-at.at in
-    let p = c.point-point.result in
-    let low : i < length run.points = omega (arith, c.loop-at-test.true, c.len-at-end.ensures.value) in
-    let is : p ≡ get_or run.points i p = sym (get_or_from_slice_get run.points i p p c.point-point.ensures) in
-    run_more index c.loop-at.self c.add.new.self waiting after run.row.kind run.row.name run.points i p c.cell.result
+    let p = c.index-index.result in
+    let low : i < length run.indices = omega (arith, c.loop-at-test.true, c.len-at-end.ensures) in
+    let is : p ≡ get_or run.indices i p = sym (get_or_from_slice_get run.indices i p p c.index-index.ensures) in
+    run_more index c.loop-at.self c.add.new.self waiting after run.row.kind run.row.name run.indices i p c.cell.result
     (c.loop-at.invariant index waiting after h waits) waits low is c.cell.ensures c.in_ok-add.ensures.cells c.in_ok-add.ensures.runs
     c.in_ok-add.ensures.families

@@ -1,9 +1,10 @@
 use Rattle.std.proofs.Common.{◌≡◌, Bool, take}
 use Rattle.std.specs.List.{list_any}
-use Rattle.wb_footprints.specs.Points.{Coordinates}
+use Rattle.wb_cells.specs.declared.values.index.Index.{Index}
+use Rattle.wb_cells.specs.declared.values.index.Index.TheVariants.{Point}
 use Rattle.wb_footprints.specs.Swept.{FailsBehind}
 use Rattle.wb_footprints.proofs.swept.SweptCells.new_points.Given as goal
 
 abbrev pub invariant-loop-at : goal.invariant-loop-at
-invariant-loop-at l = (f : Coordinates → Bool) → FailsBehind l.self l.run.row.kind l.run.row.name f →
-    list_any f l.points.items ≡ list_any f (take l.at l.run.points)
+invariant-loop-at l = (f : Index → Bool) → FailsBehind l.self l.row.kind l.row.name f →
+    list_any (λ p. f (Point p)) l.points.items ≡ list_any (λ p. f (Point p)) (take l.at l.all)
