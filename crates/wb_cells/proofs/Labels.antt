@@ -78,6 +78,11 @@ one_entry_more bytes text es e n kept start len number =
     ∙ ap (λ xs. xs ++ entry_in (bytes ++ text) e ∷ []) (same_entries bytes text es kept)
     ∙ ap (λ x. entries_in bytes es ++ x ∷ []) label
 
+-- the labels without their numbers
+pub texts_alone : (bytes : List ℕ) (es : List LabelEntry) → map (λ e. e.0) (entries_in bytes es) ≡ map (label_in bytes) es
+texts_alone bytes [] = refl
+texts_alone bytes (e ∷ es) = ap (λ ts. label_in bytes e ∷ ts) (texts_alone bytes es)
+
 -- ---- a list that grew, unless it could not
 
 pub grown : {T E X : Type 0} (r : Result T E) (b : Bool) (old more new : List X) → b ≡ is_err r → b ≡ false → new ≡ (if is_ok r then more else old) →

@@ -33,4 +33,3 @@ pub mod InTexts
 pub mod InIndices
 pub mod InLabels
 pub mod Merging
-pub mod AtLabels

@@ -1,13 +1,12 @@
 //! Runs: the elements, members or indices inside of one object, by their indices in ascending order.
 
-ghost use Rattle.std.specs.Prelude.{◌≡◌, ℕ, ℤ, ◌<◌, ◌≤◌, Bool, List, Option, IfSome, IsTrue, length, map, get_or};
+ghost use Rattle.std.specs.Prelude.{◌≡◌, ◌<◌, ◌≤◌, Bool, IfSome, IsTrue, length, map};
 ghost use Rattle.std.specs.List.{list_any};
 ghost use Rattle.wb_cells.specs.Runs.{cell_of, changes_in, packed_changes, labelled_changes, rectangle_entries, numbered_entries};
 ghost use Rattle.wb_cells.specs.Shapes.{indices};
 ghost use Rattle.wb_footprints.specs.declared.marking.Marking.{Marking};
 ghost use Rattle.wb_footprints.specs.declared.place.Place.{Place};
 ghost use Rattle.wb_cells.specs.declared.values.index.Index.{Index};
-ghost use Rattle.wb_cells.specs.declared.values.index.Index.TheVariants.{Text as at_text};
 ghost use Rattle.wb_footprints.specs.Points.{Coordinates};
 ghost use Rattle.wb_footprints.specs.Places.{cell_at, family};
 ghost use Rattle.wb_footprints.specs.Rows.{AreOfRow, AreAt};
@@ -22,10 +21,9 @@ use crate::place::Place;
 use crate::points::{Points, with_room};
 use std::alloc::Global;
 use wb_cells::{
-    AnyIndex, Cell, ChangeRun, Form, Index, LabelChanges, Name, Packed, Point, RectangleChanges,
+    AnyIndex, Cell, ChangeRun, Form, LabelChanges, Name, Packed, Point, RectangleChanges,
     RectangleNumbers, Row as ChangeRow,
 };
-use wb_sets::Label;
 
 /// So many cells at least go into one block.
 pub(crate) const LEAST: usize = 64;
@@ -194,38 +192,13 @@ fn packed_points<const R: usize>(
     Some(Points::sorted(points))
 }
 
-// The label of an index, if it is one.
-fn label_of(index: &AnyIndex) -> Option<Label>
-    ensures { IfSome result (λ label. at_text label ≡ index.now) }
-{
-    match index.index() {
-        Index::Text(label) => Some(label),
-        Index::Point(_) => None,
-    }
-}
-
-// The label of the change at a place.
-fn label_at(changes: &LabelChanges, at: usize) -> Option<Label>
-    requires { at < length changes.now.1 }
-    ensures { IfSome result (λ label. (d : List ℕ × Option ℤ) → label ≡ (get_or changes.now.1 at d).0) }
-{
-    match changes.change(at).as_cell() {
-        Cell::In(_, index) => label_of(index),
-        Cell::Member(_, index) => label_of(index),
-        Cell::Element(_, index) => label_of(index),
-        Cell::Object(_) | Cell::Shape(_) | Cell::Mapping(_) | Cell::Use(_, _) | Cell::Implicit(_) =>
-            None,
-    }
-}
-
 // The labels of changes, if there is memory for them.
 fn labels_of(alloc: Global, changes: &LabelChanges) -> Option<LabelList>
     ensures { IfSome result (λ list. list ≡ map (λ e. e.0) changes.now.1) }
 {
     let mut list = LabelList::new(alloc);
     for at in 0..changes.len() {
-        let label = label_at(changes, at)?;
-        match list.push_label(&label) {
+        match list.push(changes.text(at)) {
             Ok(()) => {}
             Err(_) => return None,
         }

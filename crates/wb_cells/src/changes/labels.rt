@@ -9,7 +9,7 @@ ghost use Rattle.wb_cells.specs.declared.cells.cell.Cell.{Cell as cell_type};
 ghost use Rattle.wb_cells.specs.declared.cells.value.Value.{Value as value_type};
 ghost use Rattle.wb_cells.specs.declared.values.index.Index.TheVariants.{Text as at_text};
 ghost use Rattle.wb_cells.specs.Cells.{count_of};
-ghost use Rattle.wb_cells.specs.Labelled.{number_in, entries_in, IsKept};
+ghost use Rattle.wb_cells.specs.Labelled.{label_in, number_in, entries_in, IsKept};
 ghost use Rattle.wb_cells.specs.Runs.{labelled_at, labelled_changes, indexed_change};
 
 use crate::cells::cell::Cell;
@@ -117,6 +117,17 @@ fn label_of(bytes: &[u8]) -> Label
     }
 }
 
+// The bytes of the label at a place.
+fn text_at<'a>(bytes: &'a [u8], entries: &[LabelEntry], at: usize) -> &'a [u8]
+    requires kept { All (IsKept bytes.now) entries.now }
+    requires place { at < length entries.now }
+    ensures text { slice_get (map (label_in bytes.now) entries.now) at ≡ Some result.now }
+    ensures label { IsLabel result.now }
+{
+    let entry = entries[at];
+    part(bytes, entry.start as usize, entry.len as usize)
+}
+
 // The label at a place, with its number, or none.
 fn entry_at(bytes: &[u8], entries: &[LabelEntry], at: usize) -> (Label, Option<i64>)
     requires kept { All (IsKept bytes.now) entries.now }
@@ -203,6 +214,15 @@ impl LabelChanges {
         ensures { slice_get self.now.1 at ≡ Some result }
     {
         entry_at(self.bytes.as_slice(), self.entries.as_slice(), at)
+    }
+
+    /// The bytes of the label at a place.
+    pub fn text(&self, at: usize) -> &[u8]
+        requires { at < length self.now.1 }
+        ensures text { slice_get (map (λ e. e.0) self.now.1) at ≡ Some result.now }
+        ensures label { IsLabel result.now }
+    {
+        text_at(self.bytes.as_slice(), self.entries.as_slice(), at)
     }
 
     /// How many changes there are.
