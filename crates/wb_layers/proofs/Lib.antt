@@ -1,3 +1,4 @@
 mod Placed
 mod Together
 mod Shown
+mod Families

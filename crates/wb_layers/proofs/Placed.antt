@@ -1,5 +1,7 @@
 -- Where a change stands, and what it leaves.
-use Rattle.std.proofs.Common.{◌≡◌, ℕ, zero, suc, ◌<◌, true, false, cond, ◌||◌, [], ◌∷◌, ◌++◌, length, get_or, slice_set, Option, Some, None, option_map, arith, refl, sym, ap, ◌∙◌}
+use Rattle.std.proofs.Common.{◌≡◌, ℕ, zero, suc, ◌<◌, true, false, cond, ◌||◌, [], ◌∷◌, ◌++◌, length, get_or, slice_set, Option, Some, None, option_map, arith, IsSome, refl, sym, ap, subst, ◌∙◌}
+use Rattle.std.specs.BTreeMap.{BTreeMap}
+use Rattle.std.specs.BTreeMap as tree
 use Rattle.std.specs.Ordering.{eq_by_cmp}
 use Rattle.selective_undo.specs.declared.Change.{Change}
 use Rattle.selective_undo.specs.Changes.{changes, AllOnce}
@@ -9,7 +11,8 @@ use Rattle.selective_undo.proofs.Locality.{or_neither}
 use Rattle.wb_cells.specs.declared.cells.cell.Cell.{Cell}
 use Rattle.wb_cells.specs.declared.cells.value.Value.{Value}
 use Rattle.wb_cells.specs.Cells.{Changes, cell_cmp, cell_order}
-use Rattle.wb_layers.specs.Places.{place_in}
+use Rattle.wb_cells.specs.Families.{HasName}
+use Rattle.wb_layers.specs.Places.{place_in, AreCalled}
 
 no_place : (o : Option ℕ) → option_map suc o ≡ None → o ≡ None
 no_place None e = refl
@@ -120,3 +123,12 @@ place_set (x ∷ xs) y p c e =
     behind (Some q) more is h =
         let same : suc q ≡ p = cc in
         rw (← same) (ap (λ o. cond (eq_by_cmp cell_cmp c x.cell) (Some 0) (option_map suc o)) (more q is))
+
+-- one more cell has a place, and is called by a name
+pub called_more : (m : BTreeMap Cell ℕ) (c q : Cell) (p : ℕ) (o : Option ℕ) → AreCalled m → HasName c →
+    o ≡ cond (eq_by_cmp cell_cmp q c) (Some p) (tree.get cell_cmp m q) → IsSome o → HasName q
+called_more m c q p o called name is there =
+    elim (eq_by_cmp cell_cmp q c) as (λ b. eq_by_cmp cell_cmp q c ≡ b → IsSome (cond b (Some p) (tree.get cell_cmp m q)) → HasName q) [
+      | true ↦ λ same h. subst HasName (sym (tied cell_order q c same)) name
+      | false ↦ λ other h. called q h
+    ] refl (subst (λ (x : Option ℕ). IsSome x) is there)

@@ -1,8 +1,8 @@
 -- What a pattern shows after changes.
-use Rattle.std.proofs.Common.{◌≡◌, Bool, true, false, true≢false, cond, not, ◌&&◌, T, List, [], ◌∷◌, Option, Some, None, refl, sym, ap, ◌∙◌, Ordering}
+use Rattle.std.proofs.Common.{◌≡◌, Bool, true, false, true≢false, cond, not, ◌&&◌, T, List, [], ◌∷◌, Some, None, refl, sym, ap, ◌∙◌, Ordering}
 use Rattle.std.specs.FinMap.{find, get, empty, entries, entries_sorted, get-entries, get-empty, is_sorted, retain_keys, get-retain_keys}
 use Rattle.std.specs.FinMap.Entries.{below_all, where_key}
-use Rattle.std.specs.List.{filter, filter_map, list_any}
+use Rattle.std.specs.List.{filter_map, list_any}
 use Rattle.std.specs.Map.{keys_of}
 use Rattle.std.specs.Ordering.{eq_by_cmp, is_eq, is_lt}
 use Rattle.std.specs.declared.cmp.Ordering.TheVariants.{Less, Equal, Greater}
@@ -20,7 +20,7 @@ use Rattle.wb_cells.specs.declared.cells.pattern.Pattern.TheVariants.{Objects, E
 use Rattle.wb_cells.specs.declared.cells.value.Value.{Value}
 use Rattle.wb_cells.specs.Cells.{Name, Cells, Changes, cell_cmp, cell_order, matches}
 use Rattle.wb_cells.specs.Readers.{seen, element_in, elements, object_of, objects}
-use Rattle.wb_layers.specs.Places.{as_changes}
+use Rattle.wb_layers.specs.Places.{as_changes, IsFamily}
 use Rattle.wb_layers.proofs.Placed.{left_in-keeps}
 
 pub get-apply : (xs : Changes) (s : Cells) (c : Cell) → get (apply xs s) c ≡ left_in cell_cmp xs c (get s c)
@@ -69,70 +69,40 @@ becomes s =
     get-apply (as_changes (entries s)) empty c ∙ ap (left_in cell_cmp (as_changes (entries s)) c) (get-empty cell_cmp c)
     ∙ left_in-set (entries s) c (entries_sorted s) ∙ sym (get-entries s c))
 
+-- what stands in cells is set in no cells, and then changed
+pub over_set : (t : Cells) (es : List (Cell × Value)) (before own : Changes) (a b c d : Cells) → AllOnce cell_cmp own → es ≡ entries t → a ≡ empty →
+    before ≡ as_changes es → b ≡ apply (sets before) a → c ≡ apply (sets own) b → d ≡ apply (clears own) c → entries d ≡ entries (apply own t)
+over_set t es before own a b c d once shown none set first_set then_set cleared =
+    let made : b ≡ t = first_set ∙ ap (λ (q : Cells). apply (sets before) q) none ∙ ap (λ (ys : Changes). apply (sets ys) empty) (set ∙ ap as_changes shown) ∙ becomes t in
+    ap entries (cleared ∙ ap (apply (clears own)) (then_set ∙ ap (apply (sets own)) made) ∙ sets_clears cell_order own t once)
+
 -- ---- the changes of the cells that a pattern names
 
 module _ (p : Pattern) where
-  abbrev named : Changes → Changes
-  named xs = filter (λ x. matches p x.cell) xs
-
-  named-keeps : (xs : Changes) (c : Cell) → changes cell_cmp xs c ≡ false → changes cell_cmp (named xs) c ≡ false
-  named-keeps [] c e = refl
-  named-keeps (x ∷ xs) c e =
-      let parts = or_neither (eq_by_cmp cell_cmp c x.cell) (changes cell_cmp xs c) e in
-      elim (matches p x.cell) as (λ b. changes cell_cmp (cond b (x ∷ named xs) (named xs)) c ≡ false) [
-        | true ↦ rw parts.0 (named-keeps xs c parts.1)
-        | false ↦ named-keeps xs c parts.1
-      ]
-
-  named-once : (xs : Changes) → AllOnce cell_cmp xs → AllOnce cell_cmp (named xs)
-  named-once [] once = tt
-  named-once (x ∷ xs) once =
-      elim (matches p x.cell) as (λ b. AllOnce cell_cmp (cond b (x ∷ named xs) (named xs))) [
-        | true ↦ (named-keeps xs x.cell once.0, named-once xs once.1)
-        | false ↦ named-once xs once.1
-      ]
-
   -- a change of a cell that the pattern doesn't name is of another cell than one that it names
   apart : (x : Change Cell Value) (c : Cell) (b : Bool) → matches p c ≡ b → matches p x.cell ≡ not b → eq_by_cmp cell_cmp c x.cell ≡ false
   apart x c true e other = not_true _ (λ same. true≢false (sym e ∙ ap (matches p) (tied cell_order c x.cell same) ∙ other))
   apart x c false e other = not_true _ (λ same. true≢false (sym other ∙ ap (matches p) (sym (tied cell_order c x.cell same)) ∙ e))
 
-  -- at a cell that it names, they leave what all leave
-  named-left : (xs : Changes) (c : Cell) (v : Option Value) → matches p c ≡ true → left_in cell_cmp (named xs) c v ≡ left_in cell_cmp xs c v
-  named-left [] c v e = refl
-  named-left (x ∷ xs) c v e =
-      elim (matches p x.cell) as (λ b. matches p x.cell ≡ b → left_in cell_cmp (cond b (x ∷ named xs) (named xs)) c v
-      ≡ left_in cell_cmp xs c (cond (eq_by_cmp cell_cmp c x.cell) x.value v)) [
-        | true ↦ λ h. named-left xs c (cond (eq_by_cmp cell_cmp c x.cell) x.value v) e
-        | false ↦ λ h. rw (apart x c true e h) (named-left xs c v e)
-      ] refl
-
-  -- at any other they leave nothing changed
-  named-none : (xs : Changes) (c : Cell) → matches p c ≡ false → changes cell_cmp (named xs) c ≡ false
-  named-none [] c e = refl
-  named-none (x ∷ xs) c e =
-      elim (matches p x.cell) as (λ b. matches p x.cell ≡ b → changes cell_cmp (cond b (x ∷ named xs) (named xs)) c ≡ false) [
-        | true ↦ λ h. rw (apart x c false e h) (named-none xs c e)
-        | false ↦ λ h. named-none xs c e
-      ] refl
-
   alike : (c x : Cell) → cell_cmp c x ≡ Equal → matches p x ≡ matches p c
   alike c x tie = ap (matches p) (sym (cell_order.strict c x tie))
 
-  seen_named : (s : Cells) (xs : Changes) → apply (named xs) (retain_keys s (matches p)) ≡ retain_keys (apply xs s) (matches p)
-  seen_named s xs =
-      same_states cell_order _ _ (λ c.
-      get-apply (named xs) (retain_keys s (matches p)) c
-      ∙ ap (left_in cell_cmp (named xs) c) (get-retain_keys s (matches p) c (alike c))
-      ∙ elim (matches p c) as (λ b. matches p c ≡ b → left_in cell_cmp (named xs) c (cond b (get s c) None) ≡ cond b (left_in cell_cmp xs c (get s c)) None) [
-        | true ↦ λ e. named-left xs c (get s c) e
-        | false ↦ λ e. left_in-keeps (named xs) c None (named-none xs c e)
-      ] refl
+  -- made where it shows them, they make what it shows after all changes
+  pub seen_family : (s : Cells) (xs own : Changes) → IsFamily p xs own → entries (apply own (retain_keys s (matches p))) ≡ seen (apply xs s) p
+  seen_family s xs own of =
+      ap entries (same_states cell_order _ _ (λ c.
+      get-apply own (retain_keys s (matches p)) c
+      ∙ ap (left_in cell_cmp own c) (get-retain_keys s (matches p) c (alike c))
+      ∙ of.left c (cond (matches p c) (get s c) None)
+      ∙ elim (matches p c) as (λ b. cond b (left_in cell_cmp xs c (cond b (get s c) None)) (cond b (get s c) None) ≡ cond b (left_in cell_cmp xs c (get s c)) None) [
+        | true ↦ refl
+        | false ↦ refl
+      ]
       ∙ ap (λ v. cond (matches p c) v None) (sym (get-apply xs s c))
-      ∙ sym (get-retain_keys (apply xs s) (matches p) c (alike c)))
+      ∙ sym (get-retain_keys (apply xs s) (matches p) c (alike c))))
 
   -- where no change is of a cell that it names, it shows what it did
-  untouched_cell : (xs : Changes) (c : Cell) → list_any (λ x. matches p x.cell) xs ≡ false → matches p c ≡ true → changes cell_cmp xs c ≡ false
+  pub untouched_cell : (xs : Changes) (c : Cell) → list_any (λ x. matches p x.cell) xs ≡ false → matches p c ≡ true → changes cell_cmp xs c ≡ false
   untouched_cell [] c e h = refl
   untouched_cell (x ∷ xs) c e h =
       let parts = or_neither (matches p x.cell) (list_any (λ x. matches p x.cell) xs) e in
@@ -147,19 +117,6 @@ module _ (p : Pattern) where
         | false ↦ λ h. refl
       ] refl
       ∙ sym (get-retain_keys s (matches p) c (alike c))))
-
-  -- cells that are set in no cells, and then changed, are what it shows after the changes
-  pub over_seen : (s : Cells) (xs : Changes) (es : List (Cell × Value)) (before own : Changes) (a b c d : Cells) →
-      AllOnce cell_cmp xs → es ≡ seen s p → a ≡ empty → before ≡ as_changes es → own ≡ filter (λ x. matches p x.cell) xs →
-      b ≡ apply (sets before) a → c ≡ apply (sets own) b → d ≡ apply (clears own) c → entries d ≡ seen (apply xs s) p
-  over_seen s xs es before own a b c d once shown none set chosen first_set then_set cleared =
-      let t : Cells = retain_keys s (matches p) in
-      let made : b ≡ t = first_set ∙ ap (λ (q : Cells). apply (sets before) q) none ∙ ap (λ (ys : Changes). apply (sets ys) empty) (set ∙ ap as_changes shown) ∙ becomes t in
-      ap entries (
-      cleared ∙ ap (apply (clears own)) (then_set ∙ ap (apply (sets own)) made)
-      ∙ ap (λ (ys : Changes). apply (clears ys) (apply (sets ys) t)) chosen
-      ∙ sets_clears cell_order (named xs) t (named-once xs once)
-      ∙ seen_named s xs)
 
 -- ---- objects
 

@@ -84,9 +84,9 @@ impl Layer {
     pub(crate) fn touches(&self, pattern: &Pattern) -> bool
         ensures { result ≡ list_any (λ x. matches pattern.now x.cell) self.now }
     {
-        // For the proof: the invariant, which speaks of the places too.
-        let _ = &self.places;
-        overlaid::touches(&self.changes, pattern)
+        // For the proof: the invariant, which speaks of the changes too.
+        let _ = &self.changes;
+        overlaid::touches(&self.places, pattern)
     }
 
     /// What a look at a pattern shows after the changes, where it shows these cells before them; `NoMemory` where none is left.
@@ -97,9 +97,8 @@ impl Layer {
     ) -> Result<Vec<(Cell, Value)>, NoMemory>
         ensures { (s : Cells) → shown.items ≡ seen s pattern.now → IfOk result (λ v. v.items ≡ seen (apply self.now s) pattern.now) }
     {
-        // For the proof: the invariant, which speaks of the places too.
-        let _ = &self.places;
-        overlaid::over(self.alloc, &self.changes, shown, pattern)
+        let own = overlaid::named(self.alloc, &self.changes, &self.places, pattern)?;
+        overlaid::over(self.alloc, &own, shown)
     }
 
     /// These changes and then others, each cell once; `NoMemory` where none is left.

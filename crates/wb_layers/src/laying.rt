@@ -7,6 +7,7 @@ ghost use Rattle.wb_cells.specs.Cells.{cell_cmp};
 ghost use Rattle.wb_cells.specs.Runs.{changes_in, all_changes};
 ghost use Rattle.wb_layers.specs.Places.{IsFound, place_in};
 
+use crate::beginning::is_called;
 use std::alloc::Global;
 use std::collections::BTreeMap;
 use wb_cells::{Cell, CellChange, ChangeRun, Changes, Delta};
@@ -23,9 +24,11 @@ fn push(
     ensures laid { OnOk result (changes.new.items ≡ together cell_cmp changes.old.items (change.now ∷ [])) }
     ensures found { OnOk result (IsFound places.new changes.new.items) }
 {
+    let cell = change.cell();
+    is_called(&cell);
     let place = changes.len();
     changes.push(*change)?;
-    match places.insert(change.cell(), place) {
+    match places.insert(cell, place) {
         Ok(_) => Ok(()),
         Err(_) => Err(NoMemory),
     }

@@ -39,4 +39,5 @@ returns-in-Some-clause-found c =
     record {
       once = subst (λ (zs : Changes). AllOnce cell_cmp zs) (together_at xs y place c.requires.once at) (once-together cell_order xs (y ∷ []) c.requires.once alone);
       found = λ q. c.requires.found q ∙ sym (place_set xs y place q at);
+      called = c.requires.called;
     }
