@@ -21,7 +21,7 @@ use Rattle.wb_cells.specs.declared.cells.kind.DomainKind.TheVariants.{Rectangula
 use Rattle.wb_cells.specs.declared.cells.kind.KeyType.TheVariants.{Int, Text}
 use Rattle.wb_cells.specs.declared.cells.kind.Kind.{Kind}
 use Rattle.wb_cells.specs.declared.values.index.Index.{Index}
-use Rattle.wb_cells.specs.Cells.{Name, Cells, Changes, cell_cmp, cell_order, index_cmp, state_of}
+use Rattle.wb_cells.specs.Cells.{Stored, Name, Cells, Changes, cell_cmp, cell_order, index_cmp, state_of}
 use Rattle.wb_cells.specs.Kinds.{kind_of}
 use Rattle.wb_cells.specs.Layouts.{is_of_rank, IsMapping}
 use Rattle.wb_cells.specs.Locales.{mapping_in}
@@ -57,7 +57,7 @@ stored_only (x ∷ xs) s t c st same = by (is_stored x.cell) refl (λ u v e. sto
     by false e rest = rest (applied x s) t (same ∙ ap (λ (b : Bool). cond b x.value (get s c)) (sym (stored_apart c x.cell st e)) ∙
         sym (get-put cell_order x s c))
 
-pub stored_after : (cells after : BTreeMap Cell Value) (arrays : BTreeMap Name Pieced) (delta : Changes) → IsShelf cells arrays →
+pub stored_after : (cells after : Stored) (arrays : BTreeMap Name Pieced) (delta : Changes) → IsShelf cells arrays →
     state_of after ≡ apply (filter (λ x. is_stored x.cell) delta) (state_of cells) → (c : Cell) → is_stored c ≡ true →
     stored_in after.entries c ≡ get (apply delta (cells_of cells arrays)) c
 stored_after cells after arrays delta kept is c st =
@@ -101,7 +101,7 @@ none_stored (e ∷ es) k apart all = rw (by (eq_by_cmp cell_cmp k e.0) refl) (no
     by false f = f
     by true f = f ∙ differ (is_stored e.0) (is_stored k) all.0 apart (ap is_stored (sym (equal_cells k e.0 f))) true
 
-pub all_stored_after : (cells after : BTreeMap Cell Value) (delta : Changes) → AllStored cells.entries →
+pub all_stored_after : (cells after : Stored) (delta : Changes) → AllStored cells.entries →
     state_of after ≡ apply (filter (λ x. is_stored x.cell) delta) (state_of cells) → AllStored after.entries
 all_stored_after cells after delta all is =
     all_stored_by after.entries (λ k apart.
@@ -222,7 +222,7 @@ right_lies p None l xs lie lies after = ap (λ z. Some z) after.0 ∙ lies
 right_lies p (Some q) l xs lie lies after = ap (λ z. Some z) after.0 ∙ lies
 
 -- what is kept after the changes has the cells after them
-pub cells_after : (after : BTreeMap Cell Value) (fresh : BTreeMap Name Pieced) (t : Cells) → IsWellFormed t →
+pub cells_after : (after : Stored) (fresh : BTreeMap Name Pieced) (t : Cells) → IsWellFormed t →
     ((c : Cell) → is_stored c ≡ true → stored_in after.entries c ≡ get t c) → AllStored after.entries →
     IsStrictlySortedBy cell_cmp (keys_of after.entries) → IsStrictlySortedBy (slice_cmp nat_cmp) (keys_of fresh.entries) →
     Agree fresh.entries t → cells_of after fresh ≡ t
@@ -230,7 +230,7 @@ cells_after after fresh t formed stored all ascending by_name agree =
     same_cells after fresh t (record { stored = all; ascending = ascending; by_name = by_name }) formed stored agree
 
 -- what is kept after the changes is the workbook after them
-pub shelf_after : (after : BTreeMap Cell Value) (fresh : BTreeMap Name Pieced) (t : Cells) → IsWellFormed t → cells_of after fresh ≡ t →
+pub shelf_after : (after : Stored) (fresh : BTreeMap Name Pieced) (t : Cells) → IsWellFormed t → cells_of after fresh ≡ t →
     AllStored after.entries →
     IsStrictlySortedBy cell_cmp (keys_of after.entries) → IsStrictlySortedBy (slice_cmp nat_cmp) (keys_of fresh.entries) →
     ((b : Name) → option_map (λ p. p.1) (array_in fresh.entries b) ≡ lies_by t (array_at t b)) → IsShelf after fresh

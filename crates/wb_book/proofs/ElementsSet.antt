@@ -23,7 +23,7 @@ use Rattle.wb_cells.specs.declared.cells.kind.DomainKind.TheVariants.{Rectangula
 use Rattle.wb_cells.specs.declared.cells.kind.KeyType.TheVariants.{Int, Text}
 use Rattle.wb_cells.specs.declared.cells.kind.Kind.{Kind}
 use Rattle.wb_cells.specs.Locales.{mapping_in}
-use Rattle.wb_cells.specs.Cells.{Name, Cells, Changes, cell_cmp, cell_order, is_same_name}
+use Rattle.wb_cells.specs.Cells.{Stored, Name, Cells, Changes, cell_cmp, cell_order, is_same_name}
 use Rattle.wb_cells.specs.WellFormed.{IsWellFormed, array_at, array_in as object_in, domain_in, domain_at}
 use Rattle.wb_book.specs.Joined.{is_stored, stored_in, element_in}
 use Rattle.wb_book.proofs.Joined.{IsKept}
@@ -117,7 +117,7 @@ agree_set es fs s x a i v cell number there made agree =
 
 -- ---- what is kept afterwards
 
-is_kept : (cells : BTreeMap Cell Value) (arrays fresh : BTreeMap Name Pieced) → IsShelf cells arrays → keys_of fresh.entries ≡ keys_of arrays.entries →
+is_kept : (cells : Stored) (arrays fresh : BTreeMap Name Pieced) → IsShelf cells arrays → keys_of fresh.entries ≡ keys_of arrays.entries →
     IsKept cells.entries fresh.entries
 is_kept cells arrays fresh kept names = record {
   stored = kept.stored;
@@ -125,7 +125,7 @@ is_kept cells arrays fresh kept names = record {
   by_name = subst (λ (ns : List Name). IsStrictlySortedBy (slice_cmp nat_cmp) ns) (sym names) kept.by_name;
 }
 
-pub stored_there : (cells : BTreeMap Cell Value) (arrays : BTreeMap Name Pieced) → IsShelf cells arrays → (c : Cell) → is_stored c ≡ true →
+pub stored_there : (cells : Stored) (arrays : BTreeMap Name Pieced) → IsShelf cells arrays → (c : Cell) → is_stored c ≡ true →
     stored_in cells.entries c ≡ get (cells_of cells arrays) c
 stored_there cells arrays kept (Object n) st = sym (get-cells_of cells arrays kept (Object n))
 stored_there cells arrays kept (Shape n) st = sym (get-cells_of cells arrays kept (Shape n))
@@ -151,7 +151,7 @@ alike_at s t same (Some (d, kind)) = ap (λ (o : Option Value). mapping_of s d (
 alike : (s t : Cells) → ((c : Cell) → is_stored c ≡ true → get s c ≡ get t c) → (a : Name) → lies_by s (array_at s a) ≡ lies_by t (array_at t a)
 alike s t same a = ap (λ (o : Option Value). lies_by s (object_in o)) (same (Object a) refl) ∙ alike_at s t same (array_at t a)
 
-shelf_set : (cells : BTreeMap Cell Value) (arrays fresh : BTreeMap Name Pieced) (t : Cells) → IsShelf cells arrays → IsWellFormed t →
+shelf_set : (cells : Stored) (arrays fresh : BTreeMap Name Pieced) (t : Cells) → IsShelf cells arrays → IsWellFormed t →
     cells_of cells fresh ≡ t → keys_of fresh.entries ≡ keys_of arrays.entries →
     ((b : Name) → option_map (λ p. p.1) (array_in fresh.entries b) ≡ option_map (λ p. p.1) (array_in arrays.entries b)) →
     ((c : Cell) → is_stored c ≡ true → get (cells_of cells arrays) c ≡ get t c) → IsShelf cells fresh
@@ -163,7 +163,7 @@ shelf_set cells arrays fresh t kept formed is names lie same = record {
   lie = λ a. lie a ∙ kept.lie a ∙ alike (cells_of cells arrays) t same a ∙ ap (λ (s : Cells). lies_by s (array_at s a)) (sym is);
 }
 
-pub set_whole : (cells : BTreeMap Cell Value) (arrays fresh : BTreeMap Name Pieced) (delta : Changes) → IsShelf cells arrays →
+pub set_whole : (cells : Stored) (arrays fresh : BTreeMap Name Pieced) (delta : Changes) → IsShelf cells arrays →
     IsWellFormed (apply delta (cells_of cells arrays)) → list_all (is_set (element_in arrays.entries)) delta ≡ true →
     keys_of fresh.entries ≡ keys_of arrays.entries →
     ((b : Name) → option_map (λ p. p.1) (array_in fresh.entries b) ≡ option_map (λ p. p.1) (array_in arrays.entries b)) →

@@ -27,7 +27,7 @@ use Rattle.wb_cells.specs.declared.cells.value.Value.{Value}
 use Rattle.wb_cells.specs.declared.cells.value.Value.TheVariants.{Domain, Array, Ranges, Mapping as mapping_value, Present, Bound, Number}
 use Rattle.wb_cells.specs.declared.values.index.Index.{Index}
 use Rattle.wb_cells.specs.declared.values.index.Index.TheVariants.{Point, Text as text_index}
-use Rattle.wb_cells.specs.Cells.{Name, Cells, Changes, cell_cmp, cell_order, index_cmp, is_same_name, state_of}
+use Rattle.wb_cells.specs.Cells.{Stored, Name, Cells, Changes, cell_cmp, cell_order, index_cmp, is_same_name, state_of}
 use Rattle.wb_cells.specs.Kinds.{kind_of, is_key, is_point}
 use Rattle.wb_cells.specs.Layouts.{is_of_rank}
 use Rattle.wb_cells.specs.Locales.{mapping_in}
@@ -237,10 +237,10 @@ module _ (lies : Name → Option (LayoutMap × ℕ)) (arrays : List (Name × Pie
     each_formed gs s.1 (λ b xs named. one b xs (named_later g gs b xs s.0 named)),
   )
 
-module _ (cells : BTreeMap Cell Value) (arrays : BTreeMap Name Pieced) (delta : Changes) (kept : IsShelf cells arrays) (xs : Changes)
+module _ (cells : Stored) (arrays : BTreeMap Name Pieced) (delta : Changes) (kept : IsShelf cells arrays) (xs : Changes)
     (only : xs ≡ filter (λ x. is_stored x.cell) delta) (once : AllOnce cell_cmp delta) (formed : IsWellFormed (apply delta (cells_of cells arrays)))
     (gs : List (Name × Group)) (lead : (b : Name) → LeadTo delta b (changes_in gs b)) (ascending : IsStrictlySortedBy (slice_cmp nat_cmp) (keys_of gs))
-    (ready : BTreeMap Cell Value) (grown : List (Name × Pieced)) (set : state_of ready ≡ apply (sets xs) (state_of cells))
+    (ready : Stored) (grown : List (Name × Pieced)) (set : state_of ready ≡ apply (sets xs) (state_of cells))
     (elements : (b : Name) (i : Index) → element_in grown b i ≡ element_in arrays.entries b i) where
   one_formed : (b : Name) (p : Pieced) (l : LayoutMap × ℕ) → array_in grown b ≡ Some p → lies_at (stored_in ready.entries) b ≡ Some l →
       IsFormed (changes_in gs b) l p.0

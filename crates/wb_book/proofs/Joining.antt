@@ -1,6 +1,6 @@
 -- What is kept is the workbook whose parts it is made of.
 use Rattle.std.proofs.Common.{◌≡◌, Bool, true, false, cond, List, [], ◌∷◌, Option, None, IsSome, refl, sym, ap, subst, ◌∙◌}
-use Rattle.std.specs.BTreeMap.{BTreeMap, IsOrdered, ContainsKey, keys}
+use Rattle.std.specs.BTreeMap.{BTreeMap}
 use Rattle.std.specs.Cmp.Lexicographic.{slice_cmp}
 use Rattle.std.specs.FinMap.{get}
 use Rattle.std.specs.List.{AllByRecursion}
@@ -8,14 +8,13 @@ use Rattle.std.specs.List.Sorted.{IsStrictlySortedBy}
 use Rattle.std.specs.Map.{keys_of}
 use Rattle.std.specs.Option.{option_map}
 use Rattle.std.specs.Ordering.{nat_cmp}
-use Rattle.std.proofs.lemmas.List.Elements.{recursion_from_All}
-use Rattle.std.proofs.lemmas.Map.Views.{All-keys_found}
 use Rattle.wb_cells.specs.declared.cells.cell.Cell.{Cell}
 use Rattle.wb_cells.specs.declared.cells.value.Value.{Value}
-use Rattle.wb_cells.specs.Cells.{Name, Cells, cell_cmp, cell_order, state_of}
+use Rattle.wb_cells.specs.Cells.{Stored, Name, Cells, cell_cmp, cell_order, state_of}
 use Rattle.wb_cells.specs.WellFormed.{IsWellFormed, array_at}
+use Rattle.wb_cells.proofs.Order.{each_found}
 use Rattle.wb_cells.proofs.Shown.{get-state_of}
-use Rattle.wb_book.specs.Joined.{is_stored, AllStored}
+use Rattle.wb_book.specs.Joined.{is_stored, stored_in, AllStored}
 use Rattle.wb_book.specs.Stored.{stored_cells}
 use Rattle.wb_book.proofs.Stored.{get-stored_cells, get-stored}
 use Rattle.wb_book.specs.Kept.{Pieced, array_in}
@@ -27,7 +26,7 @@ by_keys : (es : List (Cell × Value)) → AllByRecursion (λ x. is_stored x ≡ 
 by_keys [] all = tt
 by_keys (e ∷ es) all = (all.0, by_keys es all.1)
 
-module _ (cells : BTreeMap Cell Value) (s : Cells) (is : state_of cells ≡ stored_cells s) where
+module _ (cells : Stored) (s : Cells) (is : state_of cells ≡ stored_cells s) where
   stored_there : (c : Cell) → IsSome (get (state_of cells) c) → is_stored c ≡ true
   stored_there c there = by (is_stored c) (subst (λ (o : Option Value). IsSome o) (ap (λ (t : Cells). get t c) is ∙ get-stored_cells s c) there)
     where
@@ -35,26 +34,25 @@ module _ (cells : BTreeMap Cell Value) (s : Cells) (is : state_of cells ≡ stor
       by true h = refl
       by false h = cc
 
-  each_stored : (xs : List Cell) → AllByRecursion (ContainsKey cell_cmp cells) xs → AllByRecursion (λ x. is_stored x ≡ true) xs
+  each_stored : (xs : List Cell) → AllByRecursion (λ c. IsSome (stored_in cells.entries c)) xs → AllByRecursion (λ x. is_stored x ≡ true) xs
   each_stored [] there = tt
   each_stored (x ∷ xs) there = (stored_there x (subst (λ (o : Option Value). IsSome o) (sym (get-state_of cells x)) there.0), each_stored xs there.1)
 
-  all_stored : IsOrdered cell_cmp cells → AllStored cells.entries
-  all_stored ordered = by_keys cells.entries
-      (each_stored (keys cells) (recursion_from_All (ContainsKey cell_cmp cells) (keys cells) (All-keys_found cell_order.total cells ordered)))
+  all_stored : AllStored cells.entries
+  all_stored = by_keys cells.entries (each_stored (keys_of cells.entries) (each_found cells.entries))
 
-module _ (cells : BTreeMap Cell Value) (arrays : BTreeMap Name Pieced) (s : Cells) (ordered : IsOrdered cell_cmp cells)
+module _ (cells : Stored) (arrays : BTreeMap Name Pieced) (s : Cells) (ordered : IsStrictlySortedBy cell_cmp (keys_of cells.entries))
     (by_name : IsStrictlySortedBy (slice_cmp nat_cmp) (keys_of arrays.entries)) (parts : AreParts cells arrays s) where
   pub parts_are : cells_of cells arrays ≡ s
   parts_are =
-      same_cells cells arrays s (record { stored = all_stored cells s parts.stored ordered; ascending = ordered; by_name = by_name }) parts.well_formed
+      same_cells cells arrays s (record { stored = all_stored cells s parts.stored; ascending = ordered; by_name = by_name }) parts.well_formed
       (λ c st. sym (get-state_of cells c) ∙ ap (λ (t : Cells). get t c) parts.stored ∙ get-stored s c st)
       parts.elements
 
   pub parts_kept : IsShelf cells arrays
   parts_kept = record {
     well_formed = subst (λ (t : Cells). IsWellFormed t) (sym parts_are) parts.well_formed;
-    stored = all_stored cells s parts.stored ordered;
+    stored = all_stored cells s parts.stored;
     ascending = ordered;
     by_name = by_name;
     lie = λ a. subst (λ (t : Cells). option_map (λ p. p.1) (array_in arrays.entries a) ≡ lies_by t (array_at t a)) (sym parts_are) (parts.lie a);

@@ -5,6 +5,7 @@ pub mod Kept
 pub mod Written
 pub mod Same
 pub mod ElementsSet
+pub mod Fitting
 pub mod Moved
 pub mod Seen
 pub mod Leads

@@ -15,7 +15,7 @@ use Rattle.wb_cells.specs.declared.cells.cell.Cell.TheVariants.{Element}
 use Rattle.wb_cells.specs.declared.cells.value.Value.{Value}
 use Rattle.wb_cells.specs.declared.cells.value.Value.TheVariants.{Number}
 use Rattle.wb_cells.specs.declared.values.index.Index.{Index}
-use Rattle.wb_cells.specs.Cells.{Name, Cells, index_cmp, is_same_name}
+use Rattle.wb_cells.specs.Cells.{Stored, Name, Cells, index_cmp, is_same_name}
 use Rattle.wb_cells.specs.WellFormed.{IsWellFormed}
 use Rattle.wb_book.specs.Joined.{element_in}
 use Rattle.wb_book.specs.Kept.{Pieced, array_in, with_element, element_set}
@@ -33,7 +33,7 @@ stays es fs a i v p w None was found made written =
     written ∙ ap (set_value (is_at (slice_cmp nat_cmp a)) es) same ∙ set_value_same (is_at (slice_cmp nat_cmp a)) es p found
 
 -- the same arrays are the same workbook
-pub same_shelf : (cells : BTreeMap Cell Value) (arrays fresh : BTreeMap Name Pieced) → IsShelf cells arrays → fresh.entries ≡ arrays.entries →
+pub same_shelf : (cells : Stored) (arrays fresh : BTreeMap Name Pieced) → IsShelf cells arrays → fresh.entries ≡ arrays.entries →
     (cells_of cells fresh ≡ cells_of cells arrays) × IsShelf cells fresh
 same_shelf cells arrays fresh kept same =
     set_whole cells arrays fresh [] kept kept.well_formed refl (ap keys_of same)
@@ -45,7 +45,7 @@ abbrev pub Replaced : Cells → Name → Index → ℤ → Option ℤ → Cells 
 Replaced s a i v (Some w) t = t ≡ apply (element_set a i v) s
 Replaced s a i v None t = t ≡ s
 
-module _ (cells : BTreeMap Cell Value) (arrays fresh : BTreeMap Name Pieced) (a : Name) (i : Index) (v : ℤ) (kept : IsShelf cells arrays)
+module _ (cells : Stored) (arrays fresh : BTreeMap Name Pieced) (a : Name) (i : Index) (v : ℤ) (kept : IsShelf cells arrays)
     (formed : IsSome (get (cells_of cells arrays) (Element a i)) → IsWellFormed (apply (element_set a i v) (cells_of cells arrays)))
     (names : keys_of fresh.entries ≡ keys_of arrays.entries)
     (made : (b : Name) → array_in fresh.entries b ≡ cond (is_same_name a b) (with_element (array_in arrays.entries b) i v) (array_in arrays.entries b)) where

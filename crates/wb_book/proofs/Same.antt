@@ -18,7 +18,7 @@ use Rattle.wb_cells.specs.declared.cells.value.Value.{Value}
 use Rattle.wb_cells.specs.declared.cells.value.Value.TheVariants.{Number}
 use Rattle.wb_cells.specs.declared.values.index.Index.{Index}
 use Rattle.wb_cells.specs.contracts.values.index.IndexOrd.TheImpl.Laws as index_laws
-use Rattle.wb_cells.specs.Cells.{Name, Cells, Changes, cell_order, index_cmp, is_same_name, is_same_index}
+use Rattle.wb_cells.specs.Cells.{Stored, Name, Cells, Changes, cell_order, index_cmp, is_same_name, is_same_index}
 use Rattle.wb_cells.specs.WellFormed.{IsWellFormed, inside_of, ranges_in}
 use Rattle.wb_book.specs.Joined.{is_stored, stored_in, element_in, answer}
 use Rattle.wb_book.proofs.Joined.{IsKept, get-joined}
@@ -27,7 +27,7 @@ use Rattle.wb_book.specs.Shelf.{cells_of}
 use Rattle.wb_book.proofs.Written.{element_in-written, one_name, one_index}
 
 -- the stored cells and the elements are those of well-formed cells: then what is kept are these cells
-pub same_cells : (cells : BTreeMap Cell Value) (arrays : BTreeMap Name Pieced) (s : Cells) → IsKept cells.entries arrays.entries → IsWellFormed s →
+pub same_cells : (cells : Stored) (arrays : BTreeMap Name Pieced) (s : Cells) → IsKept cells.entries arrays.entries → IsWellFormed s →
     ((c : Cell) → is_stored c ≡ true → stored_in cells.entries c ≡ get s c) → Agree arrays.entries s → cells_of cells arrays ≡ s
 same_cells cells arrays s kept formed stored agree = same_states cell_order _ _ λ c. get-joined cells.entries arrays.entries kept c ∙ by c
   where

@@ -18,7 +18,7 @@ use Rattle.wb_cells.specs.declared.cells.pattern.Pattern.TheVariants.{One, Eleme
 use Rattle.wb_cells.specs.declared.cells.value.Value.{Value}
 use Rattle.wb_cells.specs.declared.cells.value.Value.TheVariants.{Number}
 use Rattle.wb_cells.specs.declared.values.index.Index.{Index}
-use Rattle.wb_cells.specs.Cells.{Name, Cells, cell_cmp, cell_order, index_cmp, is_same_name, matches}
+use Rattle.wb_cells.specs.Cells.{Stored, Name, Cells, cell_cmp, cell_order, index_cmp, is_same_name, matches}
 use Rattle.wb_cells.specs.Readers.{seen, elements, element_in as told_by}
 use Rattle.wb_cells.proofs.Order.{entries_ascending}
 use Rattle.wb_book.specs.Joined.{stored_in}
@@ -82,7 +82,7 @@ pub pairs_agree : (o : Option Pieced) (i : Index) → option_and_then (λ x. loo
 pairs_agree None i = refl
 pairs_agree (Some p) i = refl
 
-pub seen_elements : (cells : BTreeMap Cell Value) (arrays : BTreeMap Name Pieced) (a : Name) (es : List (Index × ℤ)) → IsShelf cells arrays →
+pub seen_elements : (cells : Stored) (arrays : BTreeMap Name Pieced) (a : Name) (es : List (Index × ℤ)) → IsShelf cells arrays →
     es ≡ pairs_of (array_in arrays.entries a) → IsStrictlySortedBy index_cmp (keys_of es) → seen (cells_of cells arrays) (Elements a) ≡ element_cells a es
 seen_elements cells arrays a es kept is sorted =
     let s : Cells = cells_of cells arrays in
@@ -95,7 +95,7 @@ told : (a : Name) (es : List (Index × ℤ)) → filter_map told_by (element_cel
 told a [] = refl
 told a (e ∷ es) = ap (λ xs. e ∷ xs) (told a es)
 
-pub elements_are : (cells : BTreeMap Cell Value) (arrays : BTreeMap Name Pieced) (a : Name) (es : List (Index × ℤ)) → IsShelf cells arrays →
+pub elements_are : (cells : Stored) (arrays : BTreeMap Name Pieced) (a : Name) (es : List (Index × ℤ)) → IsShelf cells arrays →
     es ≡ pairs_of (array_in arrays.entries a) → IsStrictlySortedBy index_cmp (keys_of es) → es ≡ elements (cells_of cells arrays) a
 elements_are cells arrays a es kept is sorted = sym (ap (filter_map told_by) (seen_elements cells arrays a es kept is sorted) ∙ told a es)
 

@@ -25,7 +25,7 @@ use Rattle.wb_cells.specs.declared.cells.kind.Kind.{Kind}
 use Rattle.wb_cells.specs.declared.cells.value.Value.{Value}
 use Rattle.wb_cells.specs.declared.cells.value.Value.TheVariants.{Domain, Array, Number}
 use Rattle.wb_cells.specs.declared.values.index.Index.{Index}
-use Rattle.wb_cells.specs.Cells.{Name, Cells, Changes, cell_cmp, cell_order, index_cmp, state_of}
+use Rattle.wb_cells.specs.Cells.{Stored, Name, Cells, Changes, cell_cmp, cell_order, index_cmp, state_of}
 use Rattle.wb_cells.specs.Kinds.{kind_of}
 use Rattle.wb_cells.specs.Locales.{mapping_in}
 use Rattle.wb_cells.specs.WellFormed.{IsWellFormed, HasMapping, domain_at, array_at, array_in as object_in}
@@ -164,7 +164,7 @@ lay_stored (Use d n) lay = refl
 lay_stored (Implicit a) lay = refl
 lay_stored (Element a i) lay = cc
 
-module _ (cells : BTreeMap Cell Value) (arrays : BTreeMap Name Pieced) (delta : Changes) (kept : IsShelf cells arrays) (xs : Changes)
+module _ (cells : Stored) (arrays : BTreeMap Name Pieced) (delta : Changes) (kept : IsShelf cells arrays) (xs : Changes)
     (only : xs ≡ filter (λ x. is_stored x.cell) delta) where
   by_stored : (c : Cell) → is_stored c ≡ true → get (apply delta (cells_of cells arrays)) c ≡ get (apply xs (state_of cells)) c
   by_stored c st =
@@ -190,7 +190,7 @@ module _ (cells : BTreeMap Cell Value) (arrays : BTreeMap Name Pieced) (delta : 
   once_xs once = subst (λ (ys : Changes). AllOnce cell_cmp ys) (sym only) (once_stored delta once)
 
   -- where the cells are set that the changes give a value, what is there afterwards is there
-  pub ready_there : AllOnce cell_cmp delta → (ready : BTreeMap Cell Value) → state_of ready ≡ apply (sets xs) (state_of cells) →
+  pub ready_there : AllOnce cell_cmp delta → (ready : Stored) → state_of ready ≡ apply (sets xs) (state_of cells) →
       (c : Cell) → is_stored c ≡ true → IsSome (get (apply delta (cells_of cells arrays)) c) →
       stored_in ready.entries c ≡ get (apply delta (cells_of cells arrays)) c
   ready_there once ready set c st present =
@@ -204,7 +204,7 @@ module _ (cells : BTreeMap Cell Value) (arrays : BTreeMap Name Pieced) (delta : 
 
   -- ---- the changes were made
 
-  module _ (once : AllOnce cell_cmp delta) (formed : IsWellFormed (apply delta (cells_of cells arrays))) (ready after : BTreeMap Cell Value)
+  module _ (once : AllOnce cell_cmp delta) (formed : IsWellFormed (apply delta (cells_of cells arrays))) (ready after : Stored)
       (grown fresh : List (Name × Pieced)) (built : List (Name × Pieced))
       (set : state_of ready ≡ apply (sets xs) (state_of cells))
       (cleared : state_of after ≡ apply (clears xs) (state_of ready))
@@ -340,7 +340,7 @@ module _ (cells : BTreeMap Cell Value) (arrays : BTreeMap Name Pieced) (delta : 
 
   -- ---- they were taken back
 
-  module _ (after : BTreeMap Cell Value) (grown fresh : List (Name × Pieced))
+  module _ (after : Stored) (grown fresh : List (Name × Pieced))
       (back : state_of after ≡ state_of cells)
       (others : (b : Name) → changes cell_cmp xs (Object b) ≡ false → array_in grown b ≡ array_in arrays.entries b)
       (stays : (b : Name) (p : Pieced) → array_in arrays.entries b ≡ Some p → array_in grown b ≡ Some p)

@@ -14,7 +14,7 @@ use Rattle.wb_cells.specs.declared.cells.kind.DomainKind.TheVariants.{Rectangula
 use Rattle.wb_cells.specs.declared.cells.kind.KeyType.TheVariants.{Int, Text}
 use Rattle.wb_cells.specs.declared.cells.kind.Kind.{Kind}
 use Rattle.wb_cells.specs.declared.cells.value.Value.{Value}
-use Rattle.wb_cells.specs.Cells.{Name, Cells, cell_cmp}
+use Rattle.wb_cells.specs.Cells.{Stored, Name, Cells, cell_cmp}
 use Rattle.wb_cells.specs.Locales.{mapping_in}
 use Rattle.wb_cells.specs.WellFormed.{IsWellFormed, domain_at, array_at}
 use Rattle.wb_cells.specs.declared.values.index.Index.{Index}
@@ -24,7 +24,7 @@ pub use Rattle.wb_book.specs.Kept.{Pieced, array_in}
 use Rattle.wb_book.specs.Joined.{joined, AllStored}
 
 -- all cells of the workbook
-abbrev pub cells_of : BTreeMap Cell Value → BTreeMap Name Pieced → Cells
+abbrev pub cells_of : Stored → BTreeMap Name Pieced → Cells
 cells_of cells arrays = from_entries (joined cells.entries arrays.entries)
 
 -- the mapping of a domain, with the rank of its indices: a sparse one lies as its parent, an associative one on locale 0
@@ -50,7 +50,7 @@ abbrev pub piece_at : Cells → Name → ℕ → Option (List (Index × ℤ))
 piece_at s a l = piece_by (lies_by s (array_at s a)) (elements s a) l
 
 -- what is kept is a well-formed workbook
-pub record IsShelf (cells : BTreeMap Cell Value) (arrays : BTreeMap Name Pieced) : Type 0 where
+pub record IsShelf (cells : Stored) (arrays : BTreeMap Name Pieced) : Type 0 where
   pub well_formed : IsWellFormed (cells_of cells arrays)
   pub stored : AllStored cells.entries
   pub ascending : IsStrictlySortedBy cell_cmp (keys_of cells.entries)

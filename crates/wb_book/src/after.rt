@@ -29,15 +29,16 @@ use std::collections::BTreeMap;
 use wb_arrays::{MoveErr, Mover};
 use wb_cells::{
     AnyIndex, AnyLayout, AnyRect, Cell, CellChange, ChangeRun, Changes, DomainKind, Form, KeyType,
-    Name, Packed, RectangleChanges, RectangleNumbers, Row, Value,
+    Name, Packed, RectangleChanges, RectangleNumbers, Row, StoredCells, Value,
 };
 use wb_elements::{Block, Elements, Kept};
 use wb_range::NoMemory;
 
-fn mapping_in(cells: &BTreeMap<Cell, Value>, domain: &Name) -> Option<AnyLayout>
+fn mapping_in(cells: &StoredCells, domain: &Name) -> Option<AnyLayout>
     ensures { result ≡ mapping_in (stored_in cells.now.entries (mapping_cell domain.now)) }
 {
-    match cells.get(&Cell::Mapping(*domain)) {
+    let mapping = cells.get(&Cell::Mapping(*domain));
+    match &mapping {
         Some(Value::Mapping(mapping)) => Some(*mapping),
         _ => None,
     }
@@ -67,11 +68,7 @@ fn with_rank(mapping: Option<AnyLayout>, rank: u8) -> Option<(AnyLayout, u8)>
 
 // The mapping of a domain of a kind, with the rank of its indices; `None` also where it is for another rank, as can be midway
 // through changes, of a domain that they clear.
-fn kind_lies(
-    cells: &BTreeMap<Cell, Value>,
-    domain: &Name,
-    kind: &DomainKind,
-) -> Option<(AnyLayout, u8)>
+fn kind_lies(cells: &StoredCells, domain: &Name, kind: &DomainKind) -> Option<(AnyLayout, u8)>
     ensures { result ≡ kind_lies (stored_in cells.now.entries) domain.now (Some kind.now) }
 {
     match kind {
@@ -82,20 +79,22 @@ fn kind_lies(
     }
 }
 
-fn domain_lies(cells: &BTreeMap<Cell, Value>, domain: &Name) -> Option<(AnyLayout, u8)>
+fn domain_lies(cells: &StoredCells, domain: &Name) -> Option<(AnyLayout, u8)>
     ensures { result ≡ domain_lies (stored_in cells.now.entries) domain.now }
 {
-    match cells.get(&Cell::Object(*domain)) {
+    let object = cells.get(&Cell::Object(*domain));
+    match &object {
         Some(Value::Domain(kind)) => kind_lies(cells, domain, &kind.domain_kind()),
         _ => None,
     }
 }
 
 /// How an array lies, by the stored cells.
-pub(crate) fn lies(cells: &BTreeMap<Cell, Value>, array: &Name) -> Option<(AnyLayout, u8)>
+pub(crate) fn lies(cells: &StoredCells, array: &Name) -> Option<(AnyLayout, u8)>
     ensures { result ≡ lies_at (stored_in cells.now.entries) array.now }
 {
-    match cells.get(&Cell::Object(*array)) {
+    let object = cells.get(&Cell::Object(*array));
+    match &object {
         Some(Value::Array(domain, _)) => domain_lies(cells, domain),
         _ => None,
     }
@@ -235,7 +234,7 @@ fn is_stored(cell: &Cell) -> bool
 
 // The change that sets a cell to what it is now.
 fn value_before(
-    cells: &BTreeMap<Cell, Value>,
+    cells: &StoredCells,
     arrays: &BTreeMap<Name, Elements>,
     change: &CellChange,
 ) -> CellChange
@@ -246,10 +245,11 @@ fn value_before(
 }
 
 // The ranges of a domain, if it has some.
-fn ranges_in(cells: &BTreeMap<Cell, Value>, domain: &Name) -> Option<AnyRect>
+fn ranges_in(cells: &StoredCells, domain: &Name) -> Option<AnyRect>
     ensures { result ≡ ranges_in (stored_in cells.now.entries (shape_cell domain.now)) }
 {
-    match cells.get(&Cell::Shape(*domain)) {
+    let shape = cells.get(&Cell::Shape(*domain));
+    match &shape {
         Some(Value::Ranges(ranges)) => Some(*ranges),
         _ => None,
     }
@@ -257,7 +257,7 @@ fn ranges_in(cells: &BTreeMap<Cell, Value>, domain: &Name) -> Option<AnyRect>
 
 // The changes that set the cells `In` of a domain at the indices of a rectangle to what they are now, as a run: either all of
 // them are in the domain, or none is. `None` where neither is known.
-fn inside_before(cells: &BTreeMap<Cell, Value>, domain: &Name, ranges: &AnyRect) -> Option<Form>
+fn inside_before(cells: &StoredCells, domain: &Name, ranges: &AnyRect) -> Option<Form>
     ensures { IfSome result (λ f. (element : List ℕ → index_type → Option ℤ) (n : Option ℤ) →
         changes_in f ≡ map (with_answer (answer (stored_in cells.now.entries) element)) (packed_changes (inside_row domain.now)
         (rectangle_entries ranges.now n))) }
@@ -325,7 +325,7 @@ fn elements_before(
 // be told one by one.
 fn rectangle_before(
     alloc: Global,
-    cells: &BTreeMap<Cell, Value>,
+    cells: &StoredCells,
     arrays: &BTreeMap<Name, Elements>,
     row: &Row,
     ranges: &AnyRect,
@@ -345,7 +345,7 @@ fn rectangle_before(
 // run. `None` where they are to be told one by one.
 fn same_before(
     alloc: Global,
-    cells: &BTreeMap<Cell, Value>,
+    cells: &StoredCells,
     arrays: &BTreeMap<Name, Elements>,
     block: &RectangleChanges,
 ) -> Result<Option<Form>, NoMemory>
@@ -360,7 +360,7 @@ fn same_before(
 // where they are to be told one by one.
 fn each_before(
     alloc: Global,
-    cells: &BTreeMap<Cell, Value>,
+    cells: &StoredCells,
     arrays: &BTreeMap<Name, Elements>,
     block: &RectangleNumbers,
 ) -> Result<Option<Form>, NoMemory>
@@ -444,7 +444,7 @@ fn solid_before(
 // The changes that set the cells of a run to what they are now, as a run; `None` where they are to be told one by one.
 fn form_before(
     alloc: Global,
-    cells: &BTreeMap<Cell, Value>,
+    cells: &StoredCells,
     arrays: &BTreeMap<Name, Elements>,
     form: &Form,
 ) -> Result<Option<Form>, NoMemory>
@@ -465,7 +465,7 @@ fn form_before(
 // Adds the changes that set the cells of a run to what they are now, one by one.
 fn add_each_before(
     alloc: Global,
-    cells: &BTreeMap<Cell, Value>,
+    cells: &StoredCells,
     arrays: &BTreeMap<Name, Elements>,
     changes: &ChangeRun,
     before: &mut Changes,
@@ -482,7 +482,7 @@ fn add_each_before(
 // Adds the changes that set the cells of a run to what they are now, as a run where that can be.
 fn add_run_before(
     alloc: Global,
-    cells: &BTreeMap<Cell, Value>,
+    cells: &StoredCells,
     arrays: &BTreeMap<Name, Elements>,
     run: &ChangeRun,
     before: &mut Changes,
@@ -500,7 +500,7 @@ fn add_run_before(
 // Adds the changes that set the cells of runs to what they are now, one run after another.
 fn add_runs_before(
     alloc: Global,
-    cells: &BTreeMap<Cell, Value>,
+    cells: &StoredCells,
     arrays: &BTreeMap<Name, Elements>,
     runs: &[ChangeRun],
     before: &mut Changes,
@@ -517,7 +517,7 @@ fn add_runs_before(
 /// The changes that set the cells to what they are now.
 pub(crate) fn values_before(
     alloc: Global,
-    cells: &BTreeMap<Cell, Value>,
+    cells: &StoredCells,
     arrays: &BTreeMap<Name, Elements>,
     delta: &Changes,
 ) -> Result<Changes, NoMemory>
@@ -618,11 +618,12 @@ fn after_group<V: Mover>(
 }
 
 // The ranges of the domain of an array, where that is rectangular.
-fn ranges_over(cells: &BTreeMap<Cell, Value>, array: &Name) -> Option<AnyRect>
+fn ranges_over(cells: &StoredCells, array: &Name) -> Option<AnyRect>
     ensures { (d : List ℕ) (k : Kind) → stored_in cells.now.entries (object_cell array.now) ≡ Some (array_value d k) →
         result ≡ ranges_in (stored_in cells.now.entries (shape_cell d)) }
 {
-    match cells.get(&Cell::Object(*array)) {
+    let object = cells.get(&Cell::Object(*array));
+    match &object {
         Some(Value::Array(domain, _)) => ranges_in(cells, domain),
         _ => None,
     }
@@ -631,7 +632,7 @@ fn ranges_over(cells: &BTreeMap<Cell, Value>, array: &Name) -> Option<AnyRect>
 // An array that was made, with the ranges of its domain noted, where it stands at their indices.
 fn noted(
     alloc: Global,
-    cells: &BTreeMap<Cell, Value>,
+    cells: &StoredCells,
     name: &Name,
     made: Option<Elements>,
 ) -> Option<Elements>
@@ -650,7 +651,7 @@ fn noted(
 // The array of a name after changes of its elements, as `after_one`, by how it lies by the stored cells.
 fn after_named<V: Mover>(
     alloc: Global,
-    cells: &BTreeMap<Cell, Value>,
+    cells: &StoredCells,
     arrays: &BTreeMap<Name, Elements>,
     name: &Name,
     group: &Group,
@@ -677,7 +678,7 @@ fn after_named<V: Mover>(
 /// The arrays that are named and are others after changes, in the order of their names.
 pub(crate) fn built<V: Mover>(
     alloc: Global,
-    cells: &BTreeMap<Cell, Value>,
+    cells: &StoredCells,
     arrays: &BTreeMap<Name, Elements>,
     groups: &BTreeMap<Name, Group>,
     mover: &V,

@@ -1,8 +1,7 @@
 //! Changes are made whole or not at all.
 
 ghost use Rattle.std.specs.Prelude.{◌≡◌, ℕ, ℤ, ◌&&◌, List, [], ◌∷◌, ◌++◌, Option, Some, None, false, true, not, cond, is_some, IsSome, IfOk, OnOk, OnErr, Err};
-ghost use Rattle.std.specs.List.{count_by};
-ghost use Rattle.std.specs.BTreeMap.{BTreeMap as tree};
+ghost use Rattle.std.specs.List.{All, count_by};
 ghost use Rattle.std.specs.FinMap as map;
 ghost use Rattle.std.specs.Map.{keys_of};
 ghost use Rattle.std.specs.List.Sorted.{IsStrictlySortedBy};
@@ -13,7 +12,8 @@ ghost use Rattle.wb_cells.specs.declared.cells.cell.Cell.{Cell as cell_type};
 ghost use Rattle.wb_cells.specs.declared.cells.cell.Cell.TheVariants.{Object};
 ghost use Rattle.wb_cells.specs.declared.cells.value.Value.{Value as value_type};
 ghost use Rattle.wb_cells.specs.declared.values.index.Index.{Index};
-ghost use Rattle.wb_cells.specs.Cells.{cell_cmp, state_of, is_same_name};
+ghost use Rattle.wb_cells.specs.Stored.{FitsChange};
+ghost use Rattle.wb_cells.specs.Cells.{Stored, cell_cmp, state_of, is_same_name};
 ghost use Rattle.wb_cells.specs.WellFormed.{IsWellFormed};
 ghost use Rattle.wb_book.specs.Joined.{stored_in, element_in, is_stored};
 ghost use Rattle.wb_book.specs.After.{lies_at, AreFormed, AreAfter, is_array};
@@ -27,12 +27,12 @@ use std::alloc::Global;
 use std::collections::BTreeMap;
 use std::slice;
 use wb_arrays::{MoveErr, Mover};
-use wb_cells::{AnyIndex, AnyLayout, Cell, CellChange, Changes, Name, Value, store};
+use wb_cells::{AnyIndex, AnyLayout, Cell, CellChange, Changes, Name, StoredCells, Value, store};
 use wb_elements::Elements;
 use wb_range::NoMemory;
 
 // Whether an object is an array.
-fn is_array(cells: &BTreeMap<Cell, Value>, name: &Name) -> bool
+fn is_array(cells: &StoredCells, name: &Name) -> bool
     ensures { result ≡ is_array (stored_in cells.now.entries (Object name.now)) }
 {
     match cells.get(&Cell::Object(*name)) {
@@ -69,7 +69,7 @@ fn put_empty(
 
 fn put_new_one(
     alloc: Global,
-    cells: &BTreeMap<Cell, Value>,
+    cells: &StoredCells,
     arrays: &mut BTreeMap<Name, Elements>,
     change: &CellChange,
 ) -> Result<(), NoMemory>
@@ -93,7 +93,7 @@ fn put_new_one(
 /// Puts an empty array of each name that the changes make an array's and that has none. It may stop midway.
 fn put_new(
     alloc: Global,
-    cells: &BTreeMap<Cell, Value>,
+    cells: &StoredCells,
     arrays: &mut BTreeMap<Name, Elements>,
     stored: &[CellChange],
 ) -> Result<(), NoMemory>
@@ -115,11 +115,7 @@ fn drop_array(arrays: &mut BTreeMap<Name, Elements>, name: &Name)
     arrays.remove(name);
 }
 
-fn drop_one(
-    cells: &BTreeMap<Cell, Value>,
-    arrays: &mut BTreeMap<Name, Elements>,
-    change: &CellChange,
-)
+fn drop_one(cells: &StoredCells, arrays: &mut BTreeMap<Name, Elements>, change: &CellChange)
     ensures { (b : List ℕ) → array_in arrays.new.entries b ≡ cond
         (eq_by_cmp cell_cmp (Object b) change.now.cell && not (is_array (stored_in cells.now.entries (Object b)))) None (array_in arrays.old.entries b) }
 {
@@ -135,11 +131,7 @@ fn drop_one(
 }
 
 /// Drops the array of each name among the changes that is no array's.
-fn drop_gone(
-    cells: &BTreeMap<Cell, Value>,
-    arrays: &mut BTreeMap<Name, Elements>,
-    stored: &[CellChange],
-)
+fn drop_gone(cells: &StoredCells, arrays: &mut BTreeMap<Name, Elements>, stored: &[CellChange])
     ensures arrays { (b : List ℕ) → array_in arrays.new.entries b ≡ cond
         (changes cell_cmp stored.now (Object b) && not (is_array (stored_in cells.now.entries (Object b)))) None (array_in arrays.old.entries b) }
     ensures ascending { IsStrictlySortedBy (slice_cmp nat_cmp) (keys_of arrays.new.entries) }
@@ -152,7 +144,7 @@ fn drop_gone(
 }
 
 // Sets the cell of a change that gives it a value.
-fn set_one(cells: &mut BTreeMap<Cell, Value>, change: &CellChange) -> Result<(), NoMemory>
+fn set_one(cells: &mut StoredCells, change: &CellChange) -> Result<(), NoMemory>
     ensures others { (c : cell_type) → changes cell_cmp (sets (change.now ∷ [])) c ≡ false → map.get (state_of cells.new) c ≡ map.get (state_of cells.old) c }
     ensures stays { (c : cell_type) → IsSome (map.get (state_of cells.old) c) → IsSome (map.get (state_of cells.new) c) }
     ensures set { OnOk result (state_of cells.new ≡ apply (sets (change.now ∷ [])) (state_of cells.old)) }
@@ -164,7 +156,7 @@ fn set_one(cells: &mut BTreeMap<Cell, Value>, change: &CellChange) -> Result<(),
 }
 
 /// Sets the cells that the changes give a value, and touches no other. It may stop midway.
-fn set_given(cells: &mut BTreeMap<Cell, Value>, stored: &[CellChange]) -> Result<(), NoMemory>
+fn set_given(cells: &mut StoredCells, stored: &[CellChange]) -> Result<(), NoMemory>
     ensures others { (c : cell_type) → changes cell_cmp (sets stored.now) c ≡ false → map.get (state_of cells.new) c ≡ map.get (state_of cells.old) c }
     ensures stays { (c : cell_type) → IsSome (map.get (state_of cells.old) c) → IsSome (map.get (state_of cells.new) c) }
     ensures set { OnOk result (state_of cells.new ≡ apply (sets stored.now) (state_of cells.old)) }
@@ -179,14 +171,14 @@ fn set_given(cells: &mut BTreeMap<Cell, Value>, stored: &[CellChange]) -> Result
 /// arrays that are others afterwards. It may stop midway.
 fn prepared<V: Mover>(
     alloc: Global,
-    cells: &mut BTreeMap<Cell, Value>,
+    cells: &mut StoredCells,
     arrays: &mut BTreeMap<Name, Elements>,
     groups: &BTreeMap<Name, Group>,
     stored: &[CellChange],
     mover: &V,
 ) -> Result<Vec<(Name, Elements)>, MoveErr>
     // Each element that the changes leave stands at an index of its array's form, once the cells are set.
-    requires { (ready : tree cell_type value_type) (grown : List (List ℕ × Pieced)) → state_of ready ≡ apply (sets stored.now) (state_of cells.old) →
+    requires { (ready : Stored) (grown : List (List ℕ × Pieced)) → state_of ready ≡ apply (sets stored.now) (state_of cells.old) →
         ((b : List ℕ) (i : Index) → element_in grown b i ≡ element_in arrays.old.entries b i) →
         AreFormed (lies_at (stored_in ready.entries)) grown groups.now.entries }
 
@@ -218,7 +210,7 @@ fn prepared<V: Mover>(
 /// What can't fail of changes: clears the stored cells that they give no value, puts the arrays in that are others, and
 /// drops those that are none any more.
 fn finish(
-    cells: &mut BTreeMap<Cell, Value>,
+    cells: &mut StoredCells,
     arrays: &mut BTreeMap<Name, Elements>,
     stored: &[CellChange],
     built: Vec<(Name, Elements)>,
@@ -235,7 +227,7 @@ fn finish(
     moving::put_in(arrays, built);
     drop_gone(cells, arrays, stored);
     // For the proof: the cells ascend.
-    let _ = cells.len();
+    cells.ascend();
 }
 
 fn given_count(stored: &[CellChange]) -> usize
@@ -246,7 +238,7 @@ fn given_count(stored: &[CellChange]) -> usize
 
 // Adds the change that sets a cell to what it is now, where a change gives it a value.
 fn add_before(
-    cells: &BTreeMap<Cell, Value>,
+    cells: &StoredCells,
     change: &CellChange,
     before: &mut Vec<CellChange>,
 ) -> Result<(), NoMemory>
@@ -255,7 +247,7 @@ fn add_before(
     match change.value() {
         Some(_) => {
             let cell = change.cell();
-            let value = cells.get(&cell).copied();
+            let value = cells.get(&cell);
             Ok(before.push(CellChange::new(cell, value))?)
         }
         None => Ok(()),
@@ -265,7 +257,7 @@ fn add_before(
 /// The changes that set the cells that changes give a value to what they are now.
 fn given_before(
     alloc: Global,
-    cells: &BTreeMap<Cell, Value>,
+    cells: &StoredCells,
     stored: &[CellChange],
 ) -> Result<Vec<CellChange>, NoMemory>
     ensures { IfOk result (λ v. v.items ≡ inverse (sets stored.now) (state_of cells.now)) }
@@ -279,13 +271,14 @@ fn given_before(
 
 /// Sets the stored cells back, and drops the arrays that were put.
 fn take_back(
-    cells: &mut BTreeMap<Cell, Value>,
+    cells: &mut StoredCells,
     arrays: &mut BTreeMap<Name, Elements>,
     stored: &[CellChange],
     before: &[CellChange],
 )
     requires once { AllOnce cell_cmp before.now }
     requires room { HasRoom before.now (state_of cells.old) }
+    requires fits { All FitsChange before.now }
     ensures cells { state_of cells.new ≡ apply before.now (state_of cells.old) }
     ensures arrays { (b : List ℕ) → array_in arrays.new.entries b ≡ cond
         (changes cell_cmp stored.now (Object b) && not (is_array (stored_in cells.new.entries (Object b)))) None (array_in arrays.old.entries b) }
@@ -295,14 +288,14 @@ fn take_back(
     store::put_back(cells, before);
     drop_gone(cells, arrays, stored);
     // For the proof: the cells ascend.
-    let _ = cells.len();
+    cells.ascend();
 }
 
 /// Makes all the changes, or none where the mover refuses or no memory is left. Where they do no more than set elements
 /// that are there, it takes no memory.
 pub(crate) fn change_all<V: Mover>(
     alloc: Global,
-    cells: &mut BTreeMap<Cell, Value>,
+    cells: &mut StoredCells,
     arrays: &mut BTreeMap<Name, Elements>,
     list: &Changes,
     mover: &V,
@@ -329,7 +322,7 @@ pub(crate) fn change_all<V: Mover>(
 // Makes all the changes, whatever they are, or none where the mover refuses or no memory is left.
 fn change_any<V: Mover>(
     alloc: Global,
-    cells: &mut BTreeMap<Cell, Value>,
+    cells: &mut StoredCells,
     arrays: &mut BTreeMap<Name, Elements>,
     delta: &Changes,
     mover: &V,

@@ -27,7 +27,8 @@ use std::collections::BTreeMap;
 use std::marker::Model;
 use std::mem;
 use wb_cells::{
-    AnyIndex, Cell, CellChange, ChangeRun, Changes, Form, LabelChanges, Name, Row, Value,
+    AnyIndex, Cell, CellChange, ChangeRun, Changes, Form, LabelChanges, Name, Row, StoredCells,
+    Value,
 };
 use wb_elements::{AsIndex, Block, Elements, Kept, list_block};
 use wb_range::NoMemory;
@@ -385,7 +386,7 @@ fn name_all(
 }
 
 // Whether a change leaves each object and each mapping that is there as it is, or clears it.
-fn leaves(cells: &BTreeMap<Cell, Value>, change: &CellChange) -> bool
+fn leaves(cells: &StoredCells, change: &CellChange) -> bool
     ensures { result ≡ leaves (stored_in cells.now.entries) change.now }
 {
     let cell = change.as_cell();
@@ -404,7 +405,7 @@ fn leaves(cells: &BTreeMap<Cell, Value>, change: &CellChange) -> bool
 
 // Whether each change of a run leaves each object and each mapping that is there as it is, or clears it. No cell of a row, and
 // none of a rectangle, is an object or a mapping.
-fn run_leaves(cells: &BTreeMap<Cell, Value>, form: &Form) -> bool
+fn run_leaves(cells: &StoredCells, form: &Form) -> bool
     ensures { result ≡ list_all (leaves (stored_in cells.now.entries)) (run_changes form.now) }
 {
     match form {
@@ -419,7 +420,7 @@ fn run_leaves(cells: &BTreeMap<Cell, Value>, form: &Form) -> bool
 }
 
 // Whether each change of runs leaves each object and each mapping that is there as it is, or clears it.
-fn runs_leave(cells: &BTreeMap<Cell, Value>, runs: &[ChangeRun]) -> bool
+fn runs_leave(cells: &StoredCells, runs: &[ChangeRun]) -> bool
     ensures { result ≡ list_all (leaves (stored_in cells.now.entries)) (all_changes runs.now) }
 {
     for run in runs {
@@ -430,7 +431,7 @@ fn runs_leave(cells: &BTreeMap<Cell, Value>, runs: &[ChangeRun]) -> bool
     true
 }
 
-fn are_left(cells: &BTreeMap<Cell, Value>, delta: &Changes) -> bool
+fn are_left(cells: &StoredCells, delta: &Changes) -> bool
     ensures { result ≡ list_all (leaves (stored_in cells.now.entries)) delta.now }
 {
     let (first, runs) = delta.parts();
@@ -447,7 +448,7 @@ fn are_left(cells: &BTreeMap<Cell, Value>, delta: &Changes) -> bool
 /// that is there changes, those that the changes name, and else all.
 pub(crate) fn concerned(
     alloc: Global,
-    cells: &BTreeMap<Cell, Value>,
+    cells: &StoredCells,
     arrays: &BTreeMap<Name, Elements>,
     delta: &Changes,
 ) -> Result<BTreeMap<Name, Group>, NoMemory>

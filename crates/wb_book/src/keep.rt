@@ -20,16 +20,18 @@ ghost use Rattle.wb_book.specs.Joined.{answer, stored_in, element_in};
 use std::alloc::Global;
 use std::collections::BTreeMap;
 use wb_cells::{
-    AnyIndex, Cell, CellChange, ChangeRun, Changes, Form, LabelChanges, Name, Row, Value,
+    AnyIndex, Cell, CellChange, ChangeRun, Changes, Form, LabelChanges, Name, Row, StoredCells,
+    Value,
 };
 use wb_elements::{AsIndex, Block, Elements, PieceKey, is_block_there, write_block};
 use wb_range::NoMemory;
 
 // Whether an index is in a rectangular domain.
-fn inside(cells: &BTreeMap<Cell, Value>, domain: &Name, index: &AnyIndex) -> Option<Value>
+fn inside(cells: &StoredCells, domain: &Name, index: &AnyIndex) -> Option<Value>
     ensures { result ≡ inside_of (ranges_in (stored_in cells.now.entries (Shape domain.now))) index.now }
 {
-    match cells.get(&Cell::Shape(*domain)) {
+    let shape = cells.get(&Cell::Shape(*domain));
+    match &shape {
         Some(Value::Ranges(rect)) => {
             if rect.contains(index) {
                 Some(Value::Present)
@@ -63,7 +65,7 @@ fn as_value(number: Option<i64>) -> Option<Value>
 
 /// What stands in a cell.
 pub(crate) fn look(
-    cells: &BTreeMap<Cell, Value>,
+    cells: &StoredCells,
     arrays: &BTreeMap<Name, Elements>,
     cell: &Cell,
 ) -> Option<Value>
@@ -77,7 +79,7 @@ pub(crate) fn look(
         | Cell::Member(_, _)
         | Cell::Mapping(_)
         | Cell::Use(_, _)
-        | Cell::Implicit(_) => cells.get(cell).copied(),
+        | Cell::Implicit(_) => cells.get(cell),
     }
 }
 

@@ -4,7 +4,7 @@ ghost use Rattle.wb_cells.specs.Cells.{cell_cmp, written_more, count_of};
 ghost use Rattle.wb_cells.specs.declared.cells.cell.Cell.TheVariants.{Element};
 ghost use Rattle.wb_cells.specs.declared.cells.value.Value.TheVariants.{Number};
 ghost use Rattle.wb_book.specs.Kept.{element_set};
-ghost use Rattle.wb_cells.specs.Readers.{elements, seen};
+ghost use Rattle.wb_cells.specs.Readers.{elements, members, seen};
 ghost use Rattle.wb_cells.specs.WellFormed.{IsWellFormed};
 ghost use Rattle.std.specs.FinMap as map;
 
@@ -17,14 +17,16 @@ use std::collections::BTreeMap;
 use std::marker::Model;
 use std::mem;
 use wb_arrays::{MoveErr, Mover};
-use wb_cells::{AnyIndex, Cell, Changes, Delta, Inverse, Name, Pattern, Value};
+use wb_cells::{
+    AnyIndex, Cell, Changes, Delta, Inverse, Name, Pattern, StoredCells, Value, members_of,
+};
 use wb_elements::Elements;
 use wb_range::NoMemory;
 
 /// A workbook: its cells, well formed, and how many were set so far.
 pub struct Book {
     alloc: Global,
-    cells: BTreeMap<Cell, Value>,
+    cells: StoredCells,
     arrays: BTreeMap<Name, Elements>,
     writes: u128,
 }
@@ -62,7 +64,7 @@ impl Book {
     {
         Book {
             alloc,
-            cells: BTreeMap::new(alloc),
+            cells: StoredCells::new(alloc),
             arrays: BTreeMap::new(alloc),
             writes: 0,
         }
@@ -92,6 +94,16 @@ impl Book {
             Pattern::Members(_) => wb_cells::seen(alloc, &self.cells, pattern),
             Pattern::Uses(_) => wb_cells::seen(alloc, &self.cells, pattern),
         }
+    }
+
+    /// The members of the sparse or associative domain of a name, ascending; `NoMemory` where none is left. No cell is made of
+    /// them.
+    pub fn members(&self, alloc: Global, domain: &Name) -> Result<Vec<AnyIndex>, NoMemory>
+        ensures { IfOk result (λ v. v.items ≡ members self.now.cells domain.now) }
+    {
+        // For the proof: the invariant, which speaks of the arrays too.
+        let _ = &self.arrays;
+        members_of(alloc, &self.cells, domain)
     }
 
     /// The elements of the array of a name, each after its index, in the order of the indices; `NoMemory` where none is

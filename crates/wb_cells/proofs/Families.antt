@@ -27,12 +27,12 @@ use Rattle.wb_cells.specs.declared.cells.value.Value.{Value}
 use Rattle.wb_cells.specs.declared.values.index.Index.{Index}
 use Rattle.wb_cells.specs.declared.values.index.Index.TheVariants.{Point, Text}
 use Rattle.wb_cells.specs.Names.{is_letter, is_name_part, is_name}
-use Rattle.wb_cells.specs.Cells.{Name, Cells, cell_cmp, cell_order, index_cmp, is_same_name, same_names, matches, state_of}
+use Rattle.wb_cells.specs.Cells.{Name, Cells, cell_cmp, cell_order, index_cmp, is_same_name, same_names, matches, map_state}
 use Rattle.wb_cells.specs.Families.{Begins, HasName, AreNamed}
 use Rattle.wb_cells.specs.Readers.{seen}
 use Rattle.wb_cells.specs.WellFormed.{IsWellFormed, use_of}
-use Rattle.wb_cells.proofs.Order.{entries-state_of}
-use Rattle.wb_cells.proofs.Shown.{get-state_of}
+use Rattle.wb_cells.proofs.Order.{entries-map_state}
+use Rattle.wb_cells.proofs.Shown.{get-map_state}
 
 -- `A`, the least name
 abbrev least : Name
@@ -300,11 +300,11 @@ module _ (p : Pattern) (c : Cell) (b : Begins p c) where
   pub together_from : (x y : Cell) → is_from c x ≡ true → cell_cmp x y ≡ Less → matches p x ≡ false → matches p y ≡ false
   together_from x y from up none = b.together x y (with_true (is_le (cell_cmp c x)) true from) up none
 
-  pub all_covered : (m : BTreeMap Cell Value) → AreNamed (state_of m) → (xs : List Cell) → AllByRecursion (ContainsKey cell_cmp m) xs →
+  pub all_covered : (m : BTreeMap Cell Value) → AreNamed (map_state m) → (xs : List Cell) → AllByRecursion (ContainsKey cell_cmp m) xs →
       AllByRecursion (λ x. is_from c x ≡ false → matches p x ≡ false) xs
   all_covered m names [] there = tt
   all_covered m names (x ∷ xs) there =
-      let here : IsSome (get (state_of m) x) = subst (λ (o : Option Value). IsSome o) (sym (get-state_of m x)) there.0 in
+      let here : IsSome (get (map_state m) x) = subst (λ (o : Option Value). IsSome o) (sym (get-map_state m x)) there.0 in
       (λ before. b.none_before x (names x here) (with_true (is_le (cell_cmp c x)) false before), all_covered m names xs there.1)
 
   none_behind : (x : Cell) (es : List (Cell × Value)) → is_from c x ≡ true → matches p x ≡ false → AllByRecursion (λ y. cell_cmp x y ≡ Less) (keys_of es) →
@@ -330,16 +330,16 @@ module _ (p : Pattern) (c : Cell) (b : Begins p c) where
 
   found : (m : BTreeMap Cell Value) (part : List (Cell × Value)) → AllByRecursion (λ x. is_from c x ≡ false → matches p x ≡ false) (keys m) →
       IsOrdered cell_cmp m → part ≡ entries_between cell_cmp (Included c) Unbounded m.entries
-      → take (prefix_len (named p) part) part ≡ seen (state_of m) p
+      → take (prefix_len (named p) part) part ≡ seen (map_state m) p
   found m part all s is =
       ap (λ (es : List (Cell × Value)). take (prefix_len (named p) es) es) is
       ∙ front m.entries all s
-      ∙ sym (ap (where_key cell_cmp (matches p)) (entries-state_of m s))
-      ∙ sym (entries-retain_keys cell_order (state_of m) (matches p))
+      ∙ sym (ap (where_key cell_cmp (matches p)) (entries-map_state m s))
+      ∙ sym (entries-retain_keys cell_order (map_state m) (matches p))
 
-pub seen_found : (m : BTreeMap Cell Value) (p : Pattern) (c : Cell) (part : List (Cell × Value)) → AreNamed (state_of m) → IsOrdered cell_cmp m → Begins p c →
+pub seen_found : (m : BTreeMap Cell Value) (p : Pattern) (c : Cell) (part : List (Cell × Value)) → AreNamed (map_state m) → IsOrdered cell_cmp m → Begins p c →
     part ≡ entries_between cell_cmp (Included c) Unbounded m.entries
-    → take (prefix_len (named p) part) part ≡ seen (state_of m) p
+    → take (prefix_len (named p) part) part ≡ seen (map_state m) p
 seen_found m p c part names s b is =
     found p c b m part (all_covered p c b m names (keys m) (recursion_from_All (ContainsKey cell_cmp m) (keys m) (All-keys_found cell_order.total m s))) s is
 
@@ -362,5 +362,5 @@ module _ (p : Pattern) (c : Cell) (b : Begins p c) (no_object : (n : Name) → m
 
   pub family_found : (m : BTreeMap Cell Value) (part : List (Cell × Value)) → IsOrdered cell_cmp m →
       part ≡ entries_between cell_cmp (Included c) Unbounded m.entries
-      → take (prefix_len (named p) part) part ≡ seen (state_of m) p
+      → take (prefix_len (named p) part) part ≡ seen (map_state m) p
   family_found m part s is = found p c b m part (all_before (keys m)) s is

@@ -7,10 +7,10 @@ use Rattle.wb_cells.specs.declared.cells.cell.Cell.{Cell}
 use Rattle.wb_cells.specs.declared.cells.cell.Cell.TheVariants.{Object, Shape, In, Member, Mapping, Use, Implicit, Element}
 use Rattle.std.specs.Option.{option_and_then}
 use Rattle.wb_cells.specs.declared.cells.value.Value.{Value}
-use Rattle.wb_cells.specs.Cells.{cell_cmp, state_of}
+use Rattle.wb_cells.specs.Cells.{cell_cmp, map_state}
 use Rattle.wb_cells.specs.Readers.{object_of, objects}
 use Rattle.wb_cells.proofs.Leading.{Leads, Stops, takes, leads_ascending, get_leading, length_leading}
-use Rattle.wb_cells.proofs.Order.{keys-state_of}
+use Rattle.wb_cells.proofs.Order.{keys-map_state}
 
 abbrev any_cell : Cell → Type 0
 any_cell x = Unit {0}
@@ -39,14 +39,14 @@ all_any (x ∷ xs) = (tt, all_any xs)
 objects_lead : (xs : List Cell) → IsStrictlySortedBy cell_cmp xs → Leads object_of xs
 objects_lead xs s = leads_ascending object_of any_cell objects_stop xs (all_any xs) s
 
-pub object_count : (m : BTreeMap Cell Value) → IsOrdered cell_cmp m → prefix_len (takes object_of) (keys m) ≡ length (objects (state_of m))
+pub object_count : (m : BTreeMap Cell Value) → IsOrdered cell_cmp m → prefix_len (takes object_of) (keys m) ≡ length (objects (map_state m))
 object_count m s =
     length_leading object_of (keys m) (objects_lead (keys m) s)
-    ∙ sym (ap (λ (cells : List Cell). length (filter_map object_of cells)) (keys-state_of m s))
+    ∙ sym (ap (λ (cells : List Cell). length (filter_map object_of cells)) (keys-map_state m s))
 
 pub object_found : (m : BTreeMap Cell Value) (p : ℕ) (found : Option Cell) → IsOrdered cell_cmp m → found ≡ slice_get (keys m) p →
-    option_and_then object_of found ≡ slice_get (objects (state_of m)) p
+    option_and_then object_of found ≡ slice_get (objects (map_state m)) p
 object_found m p found s is =
     ap (option_and_then object_of) is
     ∙ get_leading object_of (keys m) p (objects_lead (keys m) s)
-    ∙ sym (ap (λ (cells : List Cell). slice_get (filter_map object_of cells) p) (keys-state_of m s))
+    ∙ sym (ap (λ (cells : List Cell). slice_get (filter_map object_of cells) p) (keys-map_state m s))

@@ -1,37 +1,27 @@
 -- What a map of the cells shows, and how its methods change that.
-use Rattle.std.proofs.Common.{◌≡◌, Result, Ok, Err, OnOk, OnErr, cond, true, false, ◌||◌, List, [], ◌∷◌, ◌++◌, refl, sym, ap, ◌∙◌, Some, None}
+use Rattle.std.proofs.Common.{◌≡◌, Result, Ok, Err, OnOk, OnErr, cond, true, false, ◌||◌, List, [], ◌∷◌, ◌++◌, refl, ap, ◌∙◌, Some}
 use Rattle.std.specs.Ordering.{eq_by_cmp}
 use Rattle.std.specs.Cmp.{eq_by_cmp_equiv}
 use Rattle.std.specs.Map.{lookup}
-use Rattle.std.specs.BTreeMap.{BTreeMap, is_at, Updates}
+use Rattle.std.specs.BTreeMap.{BTreeMap, is_at}
 use Rattle.std.specs.BTreeMap as tree
-use Rattle.std.specs.FinMap.{get, find, insert, remove, get-from_entries, get-insert, get-remove}
+use Rattle.std.specs.FinMap.{get, find, get-from_entries}
 use Rattle.selective_undo.specs.declared.Change.{Change}
 use Rattle.selective_undo.specs.Changes.{changes, AllOnce}
-use Rattle.selective_undo.proofs.Changes.{same_states}
 use Rattle.selective_undo.proofs.Locality.{or_neither}
 use Rattle.wb_cells.specs.declared.cells.cell.Cell.{Cell}
 use Rattle.wb_cells.specs.declared.cells.value.Value.{Value}
-use Rattle.wb_cells.specs.Cells.{cell_cmp, cell_order, state_of, Changes}
+use Rattle.wb_cells.specs.Cells.{Stored, cell_cmp, cell_order, state_of, map_state, Changes}
 
-find-lookup : (es : List (Cell × Value)) (q : Cell) → find cell_cmp q es ≡ lookup (is_at (cell_cmp q)) es
+pub find-lookup : (es : List (Cell × Value)) (q : Cell) → find cell_cmp q es ≡ lookup (is_at (cell_cmp q)) es
 find-lookup [] q = refl
 find-lookup (e ∷ es) q = ap (cond (eq_by_cmp cell_cmp q e.0) (Some e.1)) (find-lookup es q)
 
-pub get-state_of : (m : BTreeMap Cell Value) (q : Cell) → get (state_of m) q ≡ tree.get cell_cmp m q
+pub get-state_of : (m : Stored) (q : Cell) → get (state_of m) q ≡ lookup (is_at (cell_cmp q)) m.entries
 get-state_of m q = get-from_entries cell_order.total m.entries q ∙ find-lookup m.entries q
 
-pub set-state_of : (m n : BTreeMap Cell Value) (k : Cell) (v : Value) → Updates cell_cmp m n k (Some v) → state_of n ≡ insert (state_of m) k v
-set-state_of m n k v is =
-    same_states cell_order _ _ λ c.
-    get-state_of n c ∙ is.0 c ∙ ap (λ b. cond b (Some v) (tree.get cell_cmp m c)) ((eq_by_cmp_equiv cell_order.total).symm k c)
-    ∙ sym (get-insert cell_order.total (state_of m) k v c ∙ ap (cond (eq_by_cmp cell_cmp c k) (Some v)) (get-state_of m c))
-
-pub clear-state_of : (m n : BTreeMap Cell Value) (k : Cell) → Updates cell_cmp m n k None → state_of n ≡ remove (state_of m) k
-clear-state_of m n k is =
-    same_states cell_order _ _ λ c.
-    get-state_of n c ∙ is.0 c ∙ ap (λ b. cond b None (tree.get cell_cmp m c)) ((eq_by_cmp_equiv cell_order.total).symm k c)
-    ∙ sym (get-remove cell_order.total (state_of m) k c ∙ ap (cond (eq_by_cmp cell_cmp c k) None) (get-state_of m c))
+pub get-map_state : (m : BTreeMap Cell Value) (q : Cell) → get (map_state m) q ≡ tree.get cell_cmp m q
+get-map_state m q = get-from_entries cell_order.total m.entries q ∙ find-lookup m.entries q
 
 -- a change of a cell that is not there yet
 pub last_of : (xs : Changes) (x : Change Cell Value) (c : Cell) → changes cell_cmp (xs ++ x ∷ []) c ≡ changes cell_cmp xs c || eq_by_cmp cell_cmp c x.cell

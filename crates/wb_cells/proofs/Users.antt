@@ -12,13 +12,13 @@ use Rattle.selective_undo.proofs.Log.{get-map}
 use Rattle.wb_cells.specs.declared.cells.cell.Cell.{Cell}
 use Rattle.wb_cells.specs.declared.cells.cell.Cell.TheVariants.{Object, Shape, In, Member, Mapping, Use, Implicit, Element}
 use Rattle.wb_cells.specs.declared.cells.value.Value.{Value}
-use Rattle.wb_cells.specs.Cells.{Name, cell_cmp, cell_order, is_same_name, matches, state_of}
+use Rattle.wb_cells.specs.Cells.{Name, cell_cmp, cell_order, is_same_name, matches, map_state}
 use Rattle.wb_cells.specs.Families.{Begins, AreNamed}
 use Rattle.wb_cells.specs.declared.cells.pattern.Pattern.TheVariants.{Uses}
 use Rattle.wb_cells.specs.Readers.{user_of, users}
 use Rattle.wb_cells.proofs.Families.{is_from, together_from, all_covered}
 use Rattle.wb_cells.proofs.Leading.{Stops, leads_from, same_taken, get_leading}
-use Rattle.wb_cells.proofs.Order.{keys-state_of}
+use Rattle.wb_cells.proofs.Order.{keys-map_state}
 
 -- ---- what tells of no user is not named, and the reverse
 
@@ -57,7 +57,7 @@ module _ (d : Name) (c : Cell) (b : Begins (Uses d) c) where
 
 -- ---- so a part of the map has them all
 
-keys-filter : (test : Cell → Bool) (es : List (Cell × Value)) → keys_of (filter (λ e. test e.0) es) ≡ filter test (keys_of es)
+pub keys-filter : (test : Cell → Bool) (es : List (Cell × Value)) → keys_of (filter (λ e. test e.0) es) ≡ filter test (keys_of es)
 keys-filter test [] = refl
 keys-filter test (e ∷ es) = elim (test e.0) as (λ b. keys_of (cond b (e ∷ filter (λ x. test x.0) es) (filter (λ x. test x.0) es)) ≡ cond b
     (e.0 ∷ filter test (keys_of es)) (filter test (keys_of es))) [
@@ -70,10 +70,10 @@ by_key : (d : Name) (found : Option (Cell × Value)) → option_and_then (λ (e 
 by_key d None = refl
 by_key d (Some e) = refl
 
-pub user_found : (m : BTreeMap Cell Value) (d : Name) (c : Cell) (p : ℕ) (part : List (Cell × Value)) (found : Option (Cell × Value)) → AreNamed (state_of m) →
+pub user_found : (m : BTreeMap Cell Value) (d : Name) (c : Cell) (p : ℕ) (part : List (Cell × Value)) (found : Option (Cell × Value)) → AreNamed (map_state m) →
     IsOrdered cell_cmp m → Begins (Uses d) c
     → part ≡ entries_between cell_cmp (Included c) Unbounded m.entries → found ≡ slice_get part p →
-    option_and_then (λ (e : Cell × Value). user_of d e.0) found ≡ slice_get (users (state_of m) d) p
+    option_and_then (λ (e : Cell × Value). user_of d e.0) found ≡ slice_get (users (map_state m) d) p
 user_found m d c p part found names s b is there =
     let all = no_user_before d c b (keys m) (all_covered (Uses d) c b m names (keys m)
     (recursion_from_All (ContainsKey cell_cmp m) (keys m) (All-keys_found cell_order.total m s))) in
@@ -83,4 +83,4 @@ user_found m d c p part found names s b is there =
     ∙ ap (option_and_then (user_of d)) (sym (get-map (λ (e : Cell × Value). e.0) part p) ∙ ap (λ (xs : List Cell). slice_get xs p) cells)
     ∙ get_leading (user_of d) (filter (is_from c) (keys m)) p (leads_from (user_of d) (is_from c) (users_stop d c b) (keys m) all s)
     ∙ ap (λ (ns : List Name). slice_get ns p) (same_taken (user_of d) (is_from c) (keys m) all)
-    ∙ sym (ap (λ (xs : List Cell). slice_get (filter_map (user_of d) xs) p) (keys-state_of m s))
+    ∙ sym (ap (λ (xs : List Cell). slice_get (filter_map (user_of d) xs) p) (keys-map_state m s))

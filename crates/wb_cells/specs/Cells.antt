@@ -3,7 +3,7 @@ use Rattle.std.specs.Prelude.{◌≡◌, ℕ, ◌+◌, ◌-◌, ◌^◌, min, Bo
 use Rattle.std.specs.BTreeMap.{BTreeMap}
 use Rattle.std.specs.Cmp.{IsTotalOrder}
 use Rattle.std.specs.Cmp.Lexicographic.{slice_cmp}
-use Rattle.std.specs.Coded.{Coded, code_by, coded×, coded_ℕ}
+use Rattle.std.specs.Coded.{Coded, code_by, coded×, coded_list, coded_ℕ}
 use Rattle.std.specs.FinMap.{FinMap, code, from_entries, IsAntisymmetric, nat_cmp-IsAntisymmetric, int_cmp-IsAntisymmetric, slice_cmp-IsAntisymmetric}
 use Rattle.std.specs.List.{filter}
 use Rattle.std.specs.Ordering.{eq_by_cmp, nat_cmp, ordering_then}
@@ -105,9 +105,22 @@ Cells = FinMap cell_cmp held.Value
 abbrev pub Changes : Type 0
 Changes = List (Change Cell held.Value)
 
--- the cells that a map of them holds
-abbrev pub state_of : BTreeMap Cell held.Value → Cells
+-- Stored cells with what stands in them, in their order.
+pub record Stored : Type 0 where
+  pub entries : List (Cell × held.Value)
+
+abbrev pub stored_code : Coded Stored
+stored_code =
+    code_by (List (Cell × held.Value)) (coded_list (coded× cell_row.the_row.coded value_row.the_row.coded)) (λ a. a.entries)
+    (λ es. record { entries = es }) (λ _. refl)
+
+-- the cells that they are
+abbrev pub state_of : Stored → Cells
 state_of m = from_entries m.entries
+
+-- the cells that a map of them holds
+abbrev pub map_state : BTreeMap Cell held.Value → Cells
+map_state m = from_entries m.entries
 
 -- What a book shows: its cells, and how many were set so far.
 pub record Contents : Type 0 where

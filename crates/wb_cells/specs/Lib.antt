@@ -10,6 +10,8 @@ pub mod Runs
 pub mod Reads
 pub mod Schema
 pub mod WellFormed
+pub mod MemberSets
+pub mod Stored
 pub mod Locales
 pub mod Readers
 pub mod Families

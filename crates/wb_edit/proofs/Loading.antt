@@ -1,8 +1,6 @@
 -- What a loaded workbook writes, and where.
 use Rattle.std.proofs.Common.{◌≡◌, true, false, cond, T, List, [], ◌∷◌, ◌++◌, Option, Some, None, Result, Ok, Err, slice_get, refl, sym, ap, subst}
 use Rattle.std.proofs.Common.{◌∙◌, Ordering}
-use Rattle.std.specs.BTreeMap.{BTreeMap}
-use Rattle.std.specs.BTreeMap as tree
 use Rattle.std.specs.Cmp.{eq_by_cmp_equiv}
 use Rattle.std.specs.FinMap.{find, get, entries, entries_sorted, get-entries, is_sorted}
 use Rattle.std.specs.FinMap.Entries.{below_all, where_key}
@@ -16,13 +14,12 @@ use Rattle.selective_undo.specs.Edit.{seen}
 use Rattle.selective_undo.proofs.Changes.{same_states}
 use Rattle.selective_undo.proofs.Evaluation.{entries-retain_keys}
 use Rattle.selective_undo.proofs.Locality.{or_neither}
-use Rattle.wb_cells.proofs.Order.{entries-state_of}
 use Rattle.wb_cells.specs.declared.cells.cell.Cell.{Cell}
 use Rattle.wb_cells.specs.declared.cells.cell.Cell.TheVariants.{Object, Shape, In, Member, Mapping, Use, Implicit, Element}
 use Rattle.wb_cells.specs.declared.cells.pattern.Pattern.TheVariants.{Objects}
 use Rattle.wb_cells.specs.declared.cells.value.Value.{Value}
 use Rattle.wb_cells.specs.declared.values.index.Index.{Index}
-use Rattle.wb_cells.specs.Cells.{Name, Cells, Changes, cell_cmp, cell_order, matches, state_of}
+use Rattle.wb_cells.specs.Cells.{Name, Cells, Changes, cell_cmp, cell_order, matches}
 use Rattle.wb_cells.specs.Readers.{object_of, objects}
 use Rattle.wb_cells.specs.WellFormed.{IsWellFormed, IsShape, IsMember, HasMapping, IsImplicit, IsElement, domain_in, array_in, ranges_in, inside_of, use_of}
 use Rattle.wb_cells.specs.WellFormed.{is_index_of_array}
@@ -50,11 +47,6 @@ none_put c (e ∷ es) h = rw (less_is_other (cell_cmp c e.0) (first _ _ h)) (non
 pub puts_once : (es : List (Cell × Value)) → T (is_sorted cell_cmp es) → AllOnce cell_cmp (put_each es)
 puts_once [] h = tt
 puts_once (e ∷ es) h = (none_put e.0 es (first _ _ h), puts_once es (second _ _ h))
-
--- the changes of a map of cells, however they are made up
-pub all_once : (m : BTreeMap Cell Value) → tree.IsOrdered cell_cmp m → (xs : Changes) → xs ≡ put_each m.entries → AllOnce cell_cmp xs
-all_once m ordered xs e = subst (AllOnce cell_cmp) (ap (λ es. put_each es) (entries-state_of m ordered) ∙ sym e)
-    (puts_once (entries (state_of m)) (entries_sorted (state_of m)))
 
 -- of changes that name each cell once, one names none of the cells before it
 pub next_new : (xs : Changes) (x : Change Cell Value) (ys : Changes) → AllOnce cell_cmp (xs ++ (x ∷ ys)) → changes cell_cmp xs x.cell ≡ false

@@ -20,7 +20,6 @@ pub(crate) mod typed;
 
 use crate::block::Block;
 use crate::filled::filled;
-use crate::key::AsIndex;
 use crate::made::made;
 use crate::piece::{Pairs, points_on, texts_on};
 use crate::ranged::are_at;
@@ -28,7 +27,7 @@ use std::alloc::Global;
 use std::collections::BTreeMap;
 use std::marker::Model;
 use wb_arrays::{MoveErr, Mover, Op, Pieces, ReduceErr, Store, reduce};
-use wb_cells::{AnyIndex, AnyLayout, AnyRect, Laid};
+use wb_cells::{AnyIndex, AnyLayout, AnyRect, AsIndex, Laid};
 use wb_dist::{Distribution, Home, Layout};
 use wb_range::{Domain, Mapping, NoMemory};
 use wb_rect::Rect;

@@ -10,10 +10,10 @@ ghost use Rattle.wb_elements.specs.Piecewise.Indexed.{indexed, AllOf};
 ghost use Rattle.wb_elements.specs.Piecewise.Marked.{as_changes};
 
 use crate::block::Block;
-use crate::key::AsIndex;
 use std::alloc::Global;
 use std::cmp::Ordering;
 use wb_arrays::Pieces;
+use wb_cells::AsIndex;
 use wb_range::{Domain, Key, Mapping, NoMemory};
 
 /// Elements by a mapping, at each index of a rectangle the number that is set there; `None` where the indices don't ascend,

@@ -11,7 +11,7 @@ ghost use Rattle.wb_layers.specs.Places.{AreCalled, IsFound, IsFamily, as_change
 use crate::beginning::first;
 use std::alloc::{AllocError, Global};
 use std::collections::BTreeMap;
-use wb_cells::{Cell, CellChange, Pattern, Value, store};
+use wb_cells::{Cell, CellChange, Pattern, StoredCells, Value, store};
 use wb_range::NoMemory;
 
 /// Whether a pattern names one of the cells that have places: the first from where its cells begin, if any.
@@ -87,21 +87,6 @@ fn settings(alloc: Global, shown: &[(Cell, Value)]) -> Result<Vec<CellChange>, N
     Ok(found)
 }
 
-// The cells with their values, in their order.
-fn listed(alloc: Global, cells: &BTreeMap<Cell, Value>) -> Result<Vec<(Cell, Value)>, NoMemory>
-    ensures { IfOk result (λ v. v.items ≡ entries (state_of cells.now)) }
-{
-    // For the proof: the cells ascend.
-    let _count = cells.len();
-    let mut found = Vec::with_capacity(alloc, cells.len())?;
-    for (cell, value) in cells {
-        if found.push((*cell, *value)).is_err() {
-            return Err(NoMemory);
-        }
-    }
-    Ok(found)
-}
-
 /// What stands in cells after changes of them, where these stand there before; `NoMemory` where none is left.
 pub(crate) fn over(
     alloc: Global,
@@ -115,9 +100,9 @@ pub(crate) fn over(
         return Ok(shown);
     }
     let before = settings(alloc, &shown)?;
-    let mut cells = BTreeMap::new(alloc);
+    let mut cells = StoredCells::new(alloc);
     store::set_present(&mut cells, &before)?;
     store::set_present(&mut cells, changes)?;
     store::clear_absent(&mut cells, changes);
-    listed(alloc, &cells)
+    cells.list(alloc)
 }

@@ -10,10 +10,9 @@ use Rattle.wb_cells.specs.declared.cells.cell.Cell.TheVariants.{Object, Mapping,
 use Rattle.wb_cells.specs.declared.cells.kind.DomainKind.TheVariants as domains
 use Rattle.wb_cells.specs.declared.cells.kind.KeyType.TheVariants.{Int, Text}
 use Rattle.wb_cells.specs.declared.cells.kind.Kind.{Kind}
-use Rattle.wb_cells.specs.declared.cells.value.Value.{Value}
 use Rattle.wb_cells.specs.declared.cells.value.Value.TheVariants as values
 use Rattle.wb_cells.specs.declared.values.index.Index.{Index}
-use Rattle.wb_cells.specs.Cells.{Name, Cells, index_cmp, state_of}
+use Rattle.wb_cells.specs.Cells.{Stored, Name, Cells, index_cmp, state_of}
 use Rattle.wb_cells.specs.Kinds.{kind_of}
 use Rattle.wb_cells.specs.Locales.{mapping_in}
 use Rattle.wb_cells.specs.WellFormed.{IsWellFormed, domain_at, domain_in, array_at, array_in as object_in}
@@ -106,7 +105,7 @@ module _ (ls : List Line) (distinct : are_distinct ls ≡ true) (well : IsWellFo
       ∙ sym (ap (λ v. lies_by w (object_in v)) object ∙ domain_lies d kind (first_line_of d ls) refl (well.objects a (values.Array d kind) object))
 
   -- so they are its parts
-  parts_told : (cells : BTreeMap Cell Value) (arrays : BTreeMap Name Pieced) → state_of cells ≡ stored_put ls ls empty → AreArraysTold ls ls arrays.entries →
+  parts_told : (cells : Stored) (arrays : BTreeMap Name Pieced) → state_of cells ≡ stored_put ls ls empty → AreArraysTold ls ls arrays.entries →
       AreParts cells arrays w
   parts_told cells arrays is told = record {
     well_formed = well;
@@ -116,7 +115,7 @@ module _ (ls : List Line) (distinct : are_distinct ls ≡ true) (well : IsWellFo
   }
 
 pub made_parts : (ls : List Line) → list_all (is_sound ls) ls ≡ true → AllByRecursion IsMade ls → are_distinct ls ≡ true →
-    (cells : BTreeMap Cell Value) (arrays : BTreeMap Name Pieced)
+    (cells : Stored) (arrays : BTreeMap Name Pieced)
     → state_of cells ≡ stored_put ls ls empty → AreArraysTold ls ls arrays.entries → AreParts cells arrays (cells_put ls ls empty)
 made_parts ls sound made distinct cells arrays is told = parts_told ls distinct (made_well ls (cells_put ls ls empty) sound made distinct refl) cells arrays is
     told

@@ -11,9 +11,7 @@ ghost use Rattle.wb_text.specs.Lines.{members, indices_in, number_in, element_at
 
 use std::alloc::{AllocError, Global};
 use wb_book::Book;
-use wb_cells::{
-    AnyIndex, AnyLayout, AnyRect, Cell, Kind, Name, Pattern, Value, members_in, object_of,
-};
+use wb_cells::{AnyIndex, AnyLayout, AnyRect, Cell, Kind, Name, Pattern, Value, object_of};
 use wb_range::NoMemory;
 
 fn objects_in(alloc: Global, shown: &[(Cell, Value)]) -> Result<Vec<Name>, AllocError>
@@ -42,8 +40,7 @@ pub(crate) fn objects(alloc: Global, book: &Book) -> Result<Vec<Name>, NoMemory>
 pub(crate) fn members(alloc: Global, book: &Book, domain: &Name) -> Result<Vec<AnyIndex>, NoMemory>
     ensures { IfOk result (λ v. v.items ≡ members book.now.cells domain.now) }
 {
-    let shown = book.seen(alloc, &Pattern::Members(*domain))?;
-    Ok(members_in(alloc, &shown)?)
+    book.members(alloc, domain)
 }
 
 /// The ranges of a rectangular domain.

@@ -2,10 +2,13 @@
 
 ghost use Rattle.std.specs.List.{filter_map};
 ghost use Rattle.std.specs.Prelude.{◌≡◌, length, slice_get, IfOk};
-ghost use Rattle.wb_cells.specs.Cells.{matches, state_of};
+ghost use Rattle.wb_cells.specs.Cells.{matches, map_state, state_of};
 ghost use Rattle.wb_cells.specs.Families.{Begins, AreNamed};
+ghost use Rattle.wb_cells.specs.declared.cells.pattern.Pattern.TheVariants.{One, Members};
 ghost use Rattle.wb_cells.specs.Readers.{seen, member_in, members, element_in, elements};
 
+use crate::book::members::{count_members, list_members, nth_member};
+use crate::book::stored::{StoredCells, cells_of};
 use crate::cells::cell::Cell;
 use crate::cells::pattern::Pattern;
 use crate::cells::value::Value;
@@ -28,14 +31,14 @@ pub(crate) fn first(pattern: &Pattern) -> Cell
     }
 }
 
-/// The cells that the pattern names and that are there, with their values, in their order.
-pub fn seen(
+// The cells of a map that the pattern names, with their values, in their order.
+fn seen_in(
     alloc: Global,
     cells: &BTreeMap<Cell, Value>,
     pattern: &Pattern,
 ) -> Result<Vec<(Cell, Value)>, NoMemory>
-    requires { AreNamed (state_of cells.now) }
-    ensures { IfOk result (λ v. v.items ≡ seen (state_of cells.now) pattern.now) }
+    requires { AreNamed (map_state cells.now) }
+    ensures { IfOk result (λ v. v.items ≡ seen (map_state cells.now) pattern.now) }
 {
     let found = cells
         .range(first(pattern)..)
@@ -48,15 +51,74 @@ pub fn seen(
     }
 }
 
+// A cell with its value, if it is there.
+fn seen_one(alloc: Global, cells: &StoredCells, cell: &Cell) -> Result<Vec<(Cell, Value)>, NoMemory>
+    ensures { IfOk result (λ v. v.items ≡ seen (state_of cells.now) (One cell.now)) }
+{
+    let mut shown = Vec::new(alloc);
+    match cells.get(cell) {
+        Some(value) => {
+            shown.push((*cell, value))?;
+            Ok(shown)
+        }
+        None => Ok(shown),
+    }
+}
+
+// The members of a domain, as cells.
+fn seen_members(
+    alloc: Global,
+    cells: &StoredCells,
+    domain: &Name,
+) -> Result<Vec<(Cell, Value)>, NoMemory>
+    ensures { IfOk result (λ v. v.items ≡ seen (state_of cells.now) (Members domain.now)) }
+{
+    let Ok(indices) = list_members(alloc, &cells.members, domain) else {
+        return Err(NoMemory);
+    };
+    match cells_of(alloc, domain, &indices) {
+        Ok(shown) => Ok(shown),
+        Err(_) => Err(NoMemory),
+    }
+}
+
+/// The cells that the pattern names and that are there, with their values, in their order.
+pub fn seen(
+    alloc: Global,
+    cells: &StoredCells,
+    pattern: &Pattern,
+) -> Result<Vec<(Cell, Value)>, NoMemory>
+    requires { AreNamed (state_of cells.now) }
+    ensures { IfOk result (λ v. v.items ≡ seen (state_of cells.now) pattern.now) }
+{
+    match pattern {
+        Pattern::Objects => seen_in(alloc, &cells.low, pattern),
+        Pattern::One(cell) => seen_one(alloc, cells, cell.as_cell()),
+        Pattern::Members(domain) => seen_members(alloc, cells, domain),
+        Pattern::Uses(_) => seen_in(alloc, &cells.high, pattern),
+        Pattern::Elements(_) => seen_in(alloc, &cells.high, pattern),
+    }
+}
+
+/// The members of a sparse or associative domain, ascending, 72 bytes each: no cell is made of them.
+pub fn members_of(
+    alloc: Global,
+    cells: &StoredCells,
+    domain: &Name,
+) -> Result<Vec<AnyIndex>, NoMemory>
+    ensures { IfOk result (λ v. v.items ≡ members (state_of cells.now) domain.now) }
+{
+    match list_members(alloc, &cells.members, domain) {
+        Ok(indices) => Ok(indices),
+        Err(_) => Err(NoMemory),
+    }
+}
+
 /// How many members a sparse or associative domain has.
-pub(crate) fn member_count(cells: &BTreeMap<Cell, Value>, domain: Name) -> usize
+pub(crate) fn member_count(cells: &StoredCells, domain: Name) -> usize
     ensures { result ≡ length (members (state_of cells.now) domain) }
 {
-    let pattern = Pattern::Members(domain);
-    cells
-        .range(first(&pattern)..)
-        .take_while(|x| pattern.matches(*x.0))
-        .count()
+    count_members(&cells.members, &domain)
 }
 
 // The index that a cell tells of, as a member of a domain.
@@ -90,13 +152,8 @@ pub fn members_in(alloc: Global, shown: &[(Cell, Value)]) -> Result<Vec<AnyIndex
 }
 
 /// The member of a sparse or associative domain at place `p`, ascending.
-pub(crate) fn member_at(cells: &BTreeMap<Cell, Value>, domain: Name, p: usize) -> Option<AnyIndex>
+pub(crate) fn member_at(cells: &StoredCells, domain: Name, p: usize) -> Option<AnyIndex>
     ensures { result ≡ slice_get (members (state_of cells.now) domain) p }
 {
-    let pattern = Pattern::Members(domain);
-    let (cell, value) = cells
-        .range(first(&pattern)..)
-        .take_while(|x| pattern.matches(*x.0))
-        .nth(p)?;
-    member_in(cell, value)
+    nth_member(&cells.members, &domain, p)
 }

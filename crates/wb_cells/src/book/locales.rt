@@ -8,15 +8,15 @@ ghost use Rattle.wb_cells.specs.declared.cells.cell.Cell.TheVariants.{Mapping};
 
 use crate::book::readers::{domain_at, ranges_at};
 use crate::book::store::look;
+use crate::book::stored::StoredCells;
 use crate::cells::cell::Cell;
 use crate::cells::kind::{AnyDomain, DomainKind};
 use crate::cells::value::Value;
 use crate::values::index::AnyIndex;
 use crate::values::layout::AnyLayout;
 use crate::values::name::Name;
-use std::collections::BTreeMap;
 
-fn mapping_at(cells: &BTreeMap<Cell, Value>, domain: Name) -> Option<AnyLayout>
+fn mapping_at(cells: &StoredCells, domain: Name) -> Option<AnyLayout>
     ensures { result ≡ mapping_in (map.get (state_of cells.now) (Mapping domain)) }
 {
     match look(cells, Cell::Mapping(domain))? {
@@ -31,7 +31,7 @@ fn mapping_at(cells: &BTreeMap<Cell, Value>, domain: Name) -> Option<AnyLayout>
 }
 
 // The locale of an index by the mapping of a rectangular domain, whether the domain has the index or not.
-fn locale_by(cells: &BTreeMap<Cell, Value>, domain: Name, index: &AnyIndex) -> Option<usize>
+fn locale_by(cells: &StoredCells, domain: Name, index: &AnyIndex) -> Option<usize>
     ensures { result ≡ locale_by (state_of cells.now) domain index.now }
 {
     let mapping = mapping_at(cells, domain)?;
@@ -39,7 +39,7 @@ fn locale_by(cells: &BTreeMap<Cell, Value>, domain: Name, index: &AnyIndex) -> O
 }
 
 // Whether a domain of a kind has an index: by its ranges if it is rectangular, by its members if not.
-fn is_held(cells: &BTreeMap<Cell, Value>, domain: Name, index: &AnyIndex, kind: &AnyDomain) -> bool
+fn is_held(cells: &StoredCells, domain: Name, index: &AnyIndex, kind: &AnyDomain) -> bool
     ensures { result ≡ is_held (state_of cells.now) domain index.now kind.now }
 {
     match kind.domain_kind() {
@@ -53,7 +53,7 @@ fn is_held(cells: &BTreeMap<Cell, Value>, domain: Name, index: &AnyIndex, kind: 
 }
 
 /// The locale of an index of a domain, which has it by its ranges or its members: no cell `In` is looked at.
-pub fn locale_at(cells: &BTreeMap<Cell, Value>, domain: Name, index: &AnyIndex) -> Option<usize>
+pub fn locale_at(cells: &StoredCells, domain: Name, index: &AnyIndex) -> Option<usize>
     ensures { result ≡ locale_held (state_of cells.now) domain index.now }
 {
     let kind = domain_at(cells, domain)?;

@@ -1,6 +1,9 @@
-//! What is read of a map of cells, and how such a map is changed.
+//! What is read of the stored cells, and how they are changed.
 
 pub(crate) mod families;
 pub(crate) mod locales;
+pub(crate) mod member_set;
+pub(crate) mod members;
 pub(crate) mod readers;
 pub mod store;
+pub(crate) mod stored;

@@ -2,7 +2,7 @@
 
 mod compared;
 pub mod index;
-mod key;
+pub mod key;
 pub mod layout;
 pub mod name;
 pub mod point;

@@ -9,8 +9,7 @@ use crate::commands::writes::put;
 use crate::footprint::Footprint;
 use crate::looks::objects;
 use std::alloc::Global;
-use std::collections::BTreeMap;
-use wb_cells::{Cell, Delta, Value};
+use wb_cells::{Delta, StoredCells};
 use wb_layers::Layered;
 use wb_text::BookText;
 
@@ -37,13 +36,14 @@ fn load_changes(alloc: Global, text: &BookText) -> Result<Delta, AttemptErr>
 }
 
 // Each cell gets its value.
-fn changes_of(alloc: Global, cells: &BTreeMap<Cell, Value>) -> Result<Delta, AttemptErr>
+fn changes_of(alloc: Global, cells: &StoredCells) -> Result<Delta, AttemptErr>
     ensures { Makes (book_cells (state_of cells.now)) result }
 {
-    // For the proof: the cells ascend, so each is there once.
-    let _count = cells.len();
+    let Ok(listed) = cells.list(alloc) else {
+        return Err(AttemptErr::NoMemory);
+    };
     let mut delta = Delta::new(alloc);
-    for (cell, value) in cells {
+    for (cell, value) in &listed {
         put(&mut delta, *cell, *value)?;
     }
     Ok(delta)

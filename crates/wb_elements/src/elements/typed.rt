@@ -8,9 +8,9 @@ ghost use Rattle.wb_elements.specs.Piecewise.Seen.{seen_of, IsKept};
 ghost use Rattle.wb_cells.specs.declared.values.index.Index.TheVariants.{Point as point_index};
 
 use crate::elements::{Elements, Form, set_in};
-use crate::key::AsIndex;
 use std::alloc::Global;
 use wb_arrays::Pieces;
+use wb_cells::AsIndex;
 use wb_range::{Domain, Mapping, NoMemory};
 
 /// A key by which an array keeps its elements, where its indices have the key's form.

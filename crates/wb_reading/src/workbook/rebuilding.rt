@@ -13,7 +13,7 @@ use crate::workbook::arrays::arrays_told;
 use std::alloc::Global;
 use std::collections::BTreeMap;
 use wb_book::Book;
-use wb_cells::{Cell, Name, Value};
+use wb_cells::{Name, StoredCells};
 use wb_range::NoMemory;
 use wb_text::{ObjectLine, line_validity, places_of, put_stored};
 
@@ -31,13 +31,13 @@ fn stored_told(
     alloc: Global,
     lines: &[ObjectLine],
     places: &BTreeMap<Name, usize>,
-) -> Result<Option<BTreeMap<Cell, Value>>, NoMemory>
+) -> Result<Option<StoredCells>, NoMemory>
     requires { Finds places.now (map line_of lines.now) (map line_of lines.now) }
     ensures sound { IfOk result (λ r. is_some r ≡ list_all (is_sound (map line_of lines.now)) (map line_of lines.now)) }
     ensures cells { IfOk result (λ r. IfSome r (λ m.
         state_of m ≡ stored_put (map line_of lines.now) (map line_of lines.now) maps.empty)) }
 {
-    let mut cells = BTreeMap::new(alloc);
+    let mut cells = StoredCells::new(alloc);
     for line in lines {
         if !put_stored(&mut cells, lines, places, line)? {
             return Ok(None);

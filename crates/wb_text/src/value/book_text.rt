@@ -7,9 +7,8 @@ ghost use Rattle.wb_text.specs.Texts.Books.{IsBookText, cells_in};
 use crate::read_lines;
 use crate::value::told::cells_told;
 use std::alloc::Global;
-use std::collections::BTreeMap;
 use std::marker::Model;
-use wb_cells::{Cell, Value};
+use wb_cells::{StoredCells, Value};
 use wb_range::NoMemory;
 
 /// The text of a workbook, and never another text. Contracts see its bytes.
@@ -65,7 +64,7 @@ impl BookText {
 
     /// The cells of the workbook, with their values. It takes memory for each of them, beside that for the lines of the text;
     /// `NoMemory` where none is left.
-    pub fn cells(&self, alloc: Global) -> Result<BTreeMap<Cell, Value>, NoMemory>
+    pub fn cells(&self, alloc: Global) -> Result<StoredCells, NoMemory>
         ensures { IfOk result (λ m. state_of m ≡ cells_in self.now) }
     {
         match read_lines(alloc, self.as_str()) {

@@ -6,13 +6,12 @@ ghost use Rattle.wb_text.specs.FromLines.Inserted.{inserted};
 ghost use Rattle.wb_text.specs.FromLines.Told.{element_cells};
 
 use crate::put;
-use std::collections::BTreeMap;
-use wb_cells::{AnyIndex, Cell, Name, Value};
+use wb_cells::{AnyIndex, Cell, Name, StoredCells, Value};
 use wb_range::NoMemory;
 
 /// Sets the elements of an array at the indices.
 pub(crate) fn put_numbers(
-    cells: &mut BTreeMap<Cell, Value>,
+    cells: &mut StoredCells,
     array: Name,
     indices: &[AnyIndex],
     elements: &[i64],

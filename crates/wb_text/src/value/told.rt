@@ -12,13 +12,13 @@ use crate::value::putting::put_numbers;
 use crate::{ObjectLine, indices_of, places_of, points_of, put_presents, put_stored};
 use std::alloc::Global;
 use std::collections::BTreeMap;
-use wb_cells::{Cell, Kind, Name, Value};
+use wb_cells::{Kind, Name, StoredCells};
 use wb_range::NoMemory;
 
 // Puts in the cells that a sound line tells of beside the stored ones.
 fn put_derived(
     alloc: Global,
-    cells: &mut BTreeMap<Cell, Value>,
+    cells: &mut StoredCells,
     lines: &[ObjectLine],
     places: &BTreeMap<Name, usize>,
     line: &ObjectLine,
@@ -48,7 +48,7 @@ fn put_derived(
 // Puts in the cells that a line tells of. `false` where it is not sound, and then the cells are of no use.
 fn put_line(
     alloc: Global,
-    cells: &mut BTreeMap<Cell, Value>,
+    cells: &mut StoredCells,
     lines: &[ObjectLine],
     places: &BTreeMap<Name, usize>,
     line: &ObjectLine,
@@ -70,13 +70,13 @@ fn put_lines(
     alloc: Global,
     lines: &[ObjectLine],
     places: &BTreeMap<Name, usize>,
-) -> Result<Option<BTreeMap<Cell, Value>>, NoMemory>
+) -> Result<Option<StoredCells>, NoMemory>
     requires { Finds places.now (map line_of lines.now) (map line_of lines.now) }
     ensures sound { IfOk result (λ r. is_some r ≡ list_all (is_sound (map line_of lines.now)) (map line_of lines.now)) }
     ensures cells { IfOk result (λ r. IfSome r (λ m.
         state_of m ≡ cells_put (map line_of lines.now) (map line_of lines.now) maps.empty)) }
 {
-    let mut cells = BTreeMap::new(alloc);
+    let mut cells = StoredCells::new(alloc);
     for line in lines {
         if !put_line(alloc, &mut cells, lines, places, line)? {
             return Ok(None);
@@ -89,7 +89,7 @@ fn put_lines(
 pub(crate) fn cells_told(
     alloc: Global,
     lines: &[ObjectLine],
-) -> Result<Option<BTreeMap<Cell, Value>>, NoMemory>
+) -> Result<Option<StoredCells>, NoMemory>
     ensures sound { IfOk result (λ r. is_some r ≡ are_sound (map line_of lines.now)) }
     ensures cells { IfOk result (λ r. IfSome r (λ m. state_of m ≡ cells_told (map line_of lines.now))) }
 {

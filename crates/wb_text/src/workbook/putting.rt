@@ -8,23 +8,19 @@ ghost use Rattle.wb_text.specs.FromLines.Inserted.{inserted};
 ghost use Rattle.wb_text.specs.FromLines.Told.{presents};
 
 use std::alloc::{AllocError, Global};
-use std::collections::BTreeMap;
-use wb_cells::{AnyIndex, AnyRect, Cell, Kind, Name, Value};
+use wb_cells::{AnyIndex, AnyRect, Cell, Kind, Name, StoredCells, Value};
 use wb_range::NoMemory;
 
 /// Sets a cell.
-pub fn put(cells: &mut BTreeMap<Cell, Value>, cell: Cell, value: Value) -> Result<(), NoMemory>
+pub fn put(cells: &mut StoredCells, cell: Cell, value: Value) -> Result<(), NoMemory>
     ensures { OnOk result (state_of cells.new ≡ map.insert (state_of cells.old) cell value) }
 {
-    match cells.insert(cell, value) {
-        Ok(_) => Ok(()),
-        Err(_) => Err(NoMemory),
-    }
+    cells.insert(cell, value)
 }
 
 /// Sets the cells that say that the indices are in a domain of the kind.
 pub fn put_presents(
-    cells: &mut BTreeMap<Cell, Value>,
+    cells: &mut StoredCells,
     kind: Kind,
     domain: Name,
     indices: &[AnyIndex],

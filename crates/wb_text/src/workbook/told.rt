@@ -17,7 +17,8 @@ use crate::workbook::putting::{points_of, put, put_presents};
 use std::alloc::{AllocError, Global};
 use std::collections::BTreeMap;
 use wb_cells::{
-    AnyDomain, AnyIndex, AnyLayout, AnyRect, Binding, Cell, DomainKind, KeyType, Kind, Name, Value,
+    AnyDomain, AnyIndex, AnyLayout, AnyRect, Binding, Cell, DomainKind, KeyType, Kind, Name,
+    StoredCells, Value,
 };
 use wb_range::NoMemory;
 
@@ -131,7 +132,7 @@ fn are_keys(key: KeyType, indices: &[AnyIndex]) -> bool
 
 // Puts in what is stored of what the line of a rectangular domain tells of. `false` where the mapping isn't for its rank.
 fn put_rectangular(
-    cells: &mut BTreeMap<Cell, Value>,
+    cells: &mut StoredCells,
     domain: Name,
     ranges: &AnyRect,
     mapping: &AnyLayout,
@@ -154,7 +155,7 @@ fn put_rectangular(
 // Puts in what the line of a sparse domain tells of. `false` where its parent, which has these ranges, is no rectangular
 // domain or has not each of the indices.
 fn put_sparse(
-    cells: &mut BTreeMap<Cell, Value>,
+    cells: &mut StoredCells,
     domain: Name,
     parent: Name,
     ranges: Option<AnyRect>,
@@ -184,7 +185,7 @@ fn put_sparse(
 
 // Puts in what the line of an associative domain tells of. `false` where an index is of another type.
 fn put_associative(
-    cells: &mut BTreeMap<Cell, Value>,
+    cells: &mut StoredCells,
     domain: Name,
     key: KeyType,
     indices: &[AnyIndex],
@@ -216,7 +217,7 @@ fn implicit_of(kind: Kind, implicit: Option<i64>) -> i64
 // Puts in what is stored of what the line of an array tells of, the domain being of the kind and having so many indices.
 // `false` where there are not as many elements.
 fn put_array(
-    cells: &mut BTreeMap<Cell, Value>,
+    cells: &mut StoredCells,
     array: Name,
     domain: Name,
     kind: Kind,
@@ -244,7 +245,7 @@ fn put_array(
 
 /// Puts in the stored cells that a line tells of. `false` where it is not sound, and then the cells are of no use.
 pub fn put_stored(
-    cells: &mut BTreeMap<Cell, Value>,
+    cells: &mut StoredCells,
     lines: &[ObjectLine],
     places: &BTreeMap<Name, usize>,
     line: &ObjectLine,

@@ -1,6 +1,9 @@
 use Rattle.std.proofs.Common.{◌≡◌, refl, sym, ap, subst, ◌∙◌}
 use Rattle.selective_undo.specs.Changes.{apply, AllOnce, sets}
 use Rattle.selective_undo.proofs.AllOrNothing.{once-inverse, room-inverse, off_cells}
+use Rattle.std.specs.List.{All}
+use Rattle.wb_cells.specs.Stored.{FitsChange}
+use Rattle.wb_book.proofs.Fitting.{values_fit}
 use Rattle.wb_cells.specs.Cells.{Changes, cell_cmp, cell_order, state_of}
 use Rattle.wb_book.specs.Joined.{stored_in}
 use Rattle.wb_book.specs.After.{lies_at}
@@ -71,6 +74,11 @@ pub take_back-requires-clause-room : goal.take_back-requires-clause-room
 take_back-requires-clause-room g c =
     rw (c.as_slice-back.ensures.value, c.in-Ok-given_before.ensures)
     (room-inverse (sets c.as_slice-changed.result.now) (state_of c.args.cells.now) (state_of c.prepared.new.cells) c.prepared.ensures.stays_cells)
+
+pub take_back-requires-clause-fits : goal.take_back-requires-clause-fits
+take_back-requires-clause-fits g c =
+    subst (λ (ys : Changes). All FitsChange ys) (sym (c.as_slice-back.ensures.value ∙ c.in-Ok-given_before.ensures))
+    (values_fit c.args.cells.now c.args.arrays.now c.requires.shelf (sets c.as_slice-changed.result.now))
 
 pub returns-clause-err : goal.returns-clause-err
 returns-clause-err g c =

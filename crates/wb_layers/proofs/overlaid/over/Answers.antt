@@ -17,11 +17,11 @@ returns c = λ t shown.
     let changed = state_of c.set_present-2.new.cells in
     let done = state_of c.clear_absent.new.cells in
     let before = c.in_ok-before.before.items in
-    IfOk-weaker c.listed.result _ _
+    IfOk-weaker c.list.result _ _
     (λ v is. is ∙ over_set t c.args.shown.items before own none set changed done c.requires shown
-    (ap (λ (es : List (Cell × Value)). from_entries {R = cell_cmp} es) c.new-cells.ensures.empty)
+    (ap (λ (es : List (Cell × Value)). from_entries {R = cell_cmp} es) c.new-cells.ensures)
     (c.in_ok-before.ensures ∙ ap (λ (es : List (Cell × Value)). as_changes es) c.deref.ensures.value)
     (c.in_ok-set_present.ensures.ok ∙ ap (λ (ys : Changes). apply (sets ys) none) c.deref-2.ensures.value)
     c.in_ok-set_present-2.ensures.ok
     c.clear_absent.ensures)
-    c.listed.ensures
+    c.list.ensures

@@ -8,7 +8,7 @@ use Rattle.wb_book.proofs.shelf.Book.new.Goals as goal
 
 pub invariant_of-result : goal.invariant_of-result
 invariant_of-result c =
-    rw (c.new.ensures.empty, c.new-2.ensures.empty)
+    rw (c.new.ensures, c.new-2.ensures.empty)
     record {
       well_formed = empty_is_well_formed;
       stored = tt;

@@ -3,4 +3,4 @@ use Rattle.wb_cells.proofs.Shown.{get-state_of}
 use Rattle.wb_cells.proofs.book.store.look.Goals as goal
 
 pub returns : goal.returns
-returns c = c.copied.ensures ∙ c.get.ensures.value ∙ sym (get-state_of c.args.cells.now c.args.cell)
+returns c = c.get.ensures ∙ sym (get-state_of c.args.cells.now c.args.cell)

@@ -1,10 +1,12 @@
-use Rattle.std.proofs.Common.{◌≡◌, get_or, subst}
+use Rattle.std.proofs.Common.{◌≡◌, get_or, sym, subst}
+use Rattle.std.proofs.lemmas.List.Elements.{All-get_or}
 use Rattle.selective_undo.specs.Changes.{apply, applied}
 use Rattle.selective_undo.specs.declared.Change.{Change}
 use Rattle.selective_undo.proofs.AllOrNothing.{put_step, once_step, room_step}
 use Rattle.wb_cells.specs.declared.cells.cell.Cell.{Cell}
 use Rattle.wb_cells.specs.declared.cells.value.Value.{Value}
 use Rattle.wb_cells.specs.Cells.{cell_order, state_of}
+use Rattle.wb_cells.specs.Stored.{FitsChange}
 use Rattle.wb_cells.proofs.book.store.put_back.Goals as goal
 
 pub loop-x-preserved : goal.loop-x-preserved
@@ -21,3 +23,8 @@ loop-x-preserved c =
       once = once_step cell_order xs i x c.loop-x-test.true old.once;
       room = room_step cell_order xs i x s t c.loop-x-test.true made old.once old.room;
     }
+
+pub put_back_one-requires-clause-fits : goal.put_back_one-requires-clause-fits
+put_back_one-requires-clause-fits c =
+    subst (λ (y : Change Cell Value). FitsChange y) (sym c.x-item.is)
+    (All-get_or FitsChange c.args.before.now c.loop-x.x-index c.x-item.result c.loop-x-test.true c.requires.fits)

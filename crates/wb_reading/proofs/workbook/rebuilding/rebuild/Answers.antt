@@ -1,11 +1,8 @@
 use Rattle.std.proofs.Common.{◌≡◌, ◌&&◌, List, map, refl, sym, ap, ◌∙◌, subst, Option, Some, is_some}
-use Rattle.std.specs.BTreeMap.{BTreeMap}
 use Rattle.std.specs.FinMap.{empty}
 use Rattle.std.specs.List.{list_all}
 use Rattle.std.specs.Prelude.{IfSome}
-use Rattle.wb_cells.specs.declared.cells.cell.Cell.{Cell}
-use Rattle.wb_cells.specs.declared.cells.value.Value.{Value}
-use Rattle.wb_cells.specs.Cells.{state_of, Contents}
+use Rattle.wb_cells.specs.Cells.{Stored, state_of, Contents}
 use Rattle.wb_text.specs.Said.{Line, line_of}
 use Rattle.wb_text.specs.FromLines.Told.{is_sound, cells_put, stored_put}
 use Rattle.wb_text.proofs.FromLines.ComingBack.{not_unsound, not_twice, comes_back}
@@ -39,7 +36,7 @@ of_parts-requires c =
       cells_put ls ls empty,
       made_parts ls (sym c.in_ok-cells.ensures.sound ∙ ap is_some c.in-Some-2.is) c.lines_validity.ensures
           (sym c.in_ok-places.ensures.distinct ∙ ap is_some c.in-Some.is) c.in-Some-2.cells c.in_ok-arrays.arrays
-          (subst (λ (r : Option (BTreeMap Cell Value)). IfSome r (λ m. state_of m ≡ stored_put ls ls empty)) c.in-Some-2.is c.in_ok-cells.ensures.cells)
+          (subst (λ (r : Option Stored). IfSome r (λ m. state_of m ≡ stored_put ls ls empty)) c.in-Some-2.is c.in_ok-cells.ensures.cells)
           c.in_ok-arrays.ensures,
     )
 
@@ -49,7 +46,7 @@ returns-clause-back c = λ w well e.
     let distinct = sym c.in_ok-places.ensures.distinct ∙ ap is_some c.in-Some.is in
     let parts = made_parts ls (sym c.in_ok-cells.ensures.sound ∙ ap is_some c.in-Some-2.is) c.lines_validity.ensures distinct c.in-Some-2.cells
     c.in_ok-arrays.arrays
-    (subst (λ (r : Option (BTreeMap Cell Value)). IfSome r (λ m. state_of m ≡ stored_put ls ls empty)) c.in-Some-2.is c.in_ok-cells.ensures.cells)
+    (subst (λ (r : Option Stored). IfSome r (λ m. state_of m ≡ stored_put ls ls empty)) c.in-Some-2.is c.in_ok-cells.ensures.cells)
     c.in_ok-arrays.ensures in
     ap (λ (b : Contents). Some b.cells) (c.of_parts.ensures (cells_put ls ls empty) parts)
     ∙ ap (λ s. Some s) (comes_back ls (cells_put ls ls empty) w distinct refl well e)
@@ -65,6 +62,6 @@ returns-clause-cells c =
     let ls = map line_of c.args.lines.now in
     let parts = made_parts ls (sym c.in_ok-cells.ensures.sound ∙ ap is_some c.in-Some-2.is) c.lines_validity.ensures
     (sym c.in_ok-places.ensures.distinct ∙ ap is_some c.in-Some.is) c.in-Some-2.cells c.in_ok-arrays.arrays
-    (subst (λ (r : Option (BTreeMap Cell Value)). IfSome r (λ m. state_of m ≡ stored_put ls ls empty)) c.in-Some-2.is c.in_ok-cells.ensures.cells)
+    (subst (λ (r : Option Stored). IfSome r (λ m. state_of m ≡ stored_put ls ls empty)) c.in-Some-2.is c.in_ok-cells.ensures.cells)
     c.in_ok-arrays.ensures in
     ap (λ (b : Contents). b.cells) (c.of_parts.ensures (cells_put ls ls empty) parts)

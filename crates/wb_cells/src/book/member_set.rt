@@ -1,0 +1,348 @@
+//! The indices of a sparse or associative domain, ascending: by their form, as integers, pairs, triples or texts.
+
+ghost use Rattle.std.specs.Prelude.{◌≡◌, ◌||◌, ◌&&◌, not, List, [], ◌∷◌, true, false, map, length, slice_get, IfOk, OnOk, OnErr};
+ghost use Rattle.std.specs.Bool.{Decides};
+ghost use Rattle.std.specs.List.{list_all};
+ghost use Rattle.std.specs.List.Sorted.{IsStrictlySortedBy};
+ghost use Rattle.wb_cells.specs.declared.values.index.Index.{Index as any_index};
+ghost use Rattle.wb_cells.specs.Cells.{index_cmp, is_same_index};
+ghost use Rattle.wb_cells.specs.WellFormed.{has};
+ghost use Rattle.wb_cells.specs.MemberSets.{listed, is_of_form, IsKept};
+
+use crate::values::index::AnyIndex;
+use crate::values::key::AsIndex;
+use std::alloc::{AllocError, Global};
+use std::collections::BTreeSet;
+use std::marker::Model;
+use wb_range::NoMemory;
+use wb_sets::Label;
+
+/// Indices by their form.
+#[derive(Drop)]
+pub(crate) enum MemberForm {
+    /// Integers.
+    Line(BTreeSet<[i64; 1]>),
+    /// Pairs.
+    Plane(BTreeSet<[i64; 2]>),
+    /// Triples.
+    Solid(BTreeSet<[i64; 3]>),
+    /// Texts.
+    Text(BTreeSet<Label>),
+    /// Indices of more than one form, which no domain has.
+    Mixed(BTreeSet<AnyIndex>),
+}
+
+/// Indices, ascending. Contracts see the list of them.
+pub(crate) struct MemberSet {
+    form: MemberForm,
+}
+
+impl Drop for MemberSet {
+    fn drop(self) {
+        let MemberSet { form: _ } = self;
+    }
+}
+
+impl Model for MemberSet {
+    ghost use Rattle.std.specs.Prelude.{List};
+    ghost use Rattle.wb_cells.specs.declared.values.index.Index.{Index};
+    ghost use Rattle.wb_cells.specs.MemberSets.{listed, IsKept};
+
+    ghost Value = { List Index };
+
+    ghost view = { λ a. listed a.form };
+
+    ghost invariant = { λ a. IsKept a.form };
+}
+
+// ---- keys of one form
+
+// Whether an index has the form.
+fn has_form<K: AsIndex>(index: &AnyIndex) -> bool
+    ensures { result ≡ K.is_of index.now }
+{
+    K::of(index).is_some()
+}
+
+// Whether the index of a key is among those of the set.
+fn has_in<K: AsIndex>(set: &BTreeSet<K>, index: &AnyIndex) -> bool
+    requires { list_all K.is_of (map K.as_index set.now.keys) ≡ true }
+    ensures { result ≡ has (map K.as_index set.now.keys) index.now }
+{
+    match K::of(index) {
+        Some(key) => set.contains(&key),
+        None => false,
+    }
+}
+
+// Adds an index, which has the form.
+fn put_in<K: AsIndex>(set: &mut BTreeSet<K>, index: &AnyIndex) -> Result<(), NoMemory>
+    requires form { K.is_of index.now ≡ true }
+    requires kept { list_all K.is_of (map K.as_index set.old.keys) ≡ true }
+    ensures ok { OnOk result ((j : any_index) → has (map K.as_index set.new.keys) j ≡ is_same_index j index.now || has (map K.as_index set.old.keys) j) }
+    ensures absent { OnErr result (has (map K.as_index set.old.keys) index.now ≡ false) }
+    ensures err { OnErr result (set.new.keys ≡ set.old.keys) }
+    ensures kept { list_all K.is_of (map K.as_index set.new.keys) ≡ true }
+    ensures ascending { IsStrictlySortedBy index_cmp (map K.as_index set.new.keys) }
+{
+    match K::of(index) {
+        Some(key) => match set.insert(key) {
+            Ok(_) => Ok(()),
+            Err(_) => Err(NoMemory),
+        },
+        None => unreachable!(),
+    }
+}
+
+// Takes an index out, if it is there.
+fn take_in<K: AsIndex>(set: &mut BTreeSet<K>, index: &AnyIndex)
+    requires { list_all K.is_of (map K.as_index set.old.keys) ≡ true }
+    ensures taken { (j : any_index) → has (map K.as_index set.new.keys) j ≡ not (is_same_index j index.now) && has (map K.as_index set.old.keys) j }
+    ensures kept { list_all K.is_of (map K.as_index set.new.keys) ≡ true }
+    ensures ascending { IsStrictlySortedBy index_cmp (map K.as_index set.new.keys) }
+{
+    // For the proof: the keys ascend.
+    let _count = set.len();
+    match K::of(index) {
+        Some(key) => {
+            set.remove(&key);
+        }
+        None => {}
+    }
+}
+
+fn count_in<K: AsIndex>(set: &BTreeSet<K>) -> usize
+    ensures count { result ≡ length (map K.as_index set.now.keys) }
+    ensures ascending { IsStrictlySortedBy index_cmp (map K.as_index set.now.keys) }
+{
+    set.len()
+}
+
+fn nth_in<K: AsIndex>(set: &BTreeSet<K>, p: usize) -> Option<AnyIndex>
+    ensures { result ≡ slice_get (map K.as_index set.now.keys) p }
+{
+    match set.iter().nth(p) {
+        Some(key) => Some(key.any()),
+        None => None,
+    }
+}
+
+fn list_in<K: AsIndex>(alloc: Global, set: &BTreeSet<K>) -> Result<Vec<AnyIndex>, AllocError>
+    ensures { IfOk result (λ v. v.items ≡ map K.as_index set.now.keys) }
+{
+    set.iter()
+        .map(
+            |key: &K| -> AnyIndex
+                ensures { result ≡ K.as_index key.now }
+            { key.any() },
+        )
+        .collect(alloc)
+}
+
+// The same indices, of whatever form.
+fn mixed_in<K: AsIndex>(alloc: Global, set: &BTreeSet<K>) -> Result<BTreeSet<AnyIndex>, NoMemory>
+    ensures same { IfOk result (λ m. (j : any_index) → has (map (λ i. i) m.keys) j ≡ has (map K.as_index set.now.keys) j) }
+{
+    let mut mixed = BTreeSet::new(alloc);
+    for key in set {
+        put_in(&mut mixed, &key.any())?;
+    }
+    Ok(mixed)
+}
+
+// A set of one index, which has the form.
+fn one_in<K: AsIndex>(alloc: Global, index: &AnyIndex) -> Result<BTreeSet<K>, NoMemory>
+    requires { K.is_of index.now ≡ true }
+    ensures { IfOk result (λ s. map K.as_index s.keys ≡ index.now ∷ []) }
+{
+    let mut set = BTreeSet::new(alloc);
+    match K::of(index) {
+        Some(key) => match set.insert(key) {
+            Ok(_) => Ok(set),
+            Err(_) => Err(NoMemory),
+        },
+        None => unreachable!(),
+    }
+}
+
+// ---- forms
+
+// Whether an index may be among those of the form.
+fn fits(form: &MemberForm, index: &AnyIndex) -> bool
+    ensures { result ≡ is_of_form form.now index.now }
+{
+    match form {
+        MemberForm::Line(_) => has_form::<[i64; 1]>(index),
+        MemberForm::Plane(_) => has_form::<[i64; 2]>(index),
+        MemberForm::Solid(_) => has_form::<[i64; 3]>(index),
+        MemberForm::Text(_) => has_form::<Label>(index),
+        MemberForm::Mixed(_) => has_form::<AnyIndex>(index),
+    }
+}
+
+// Adds an index, which has the form.
+fn put_form(form: &mut MemberForm, index: &AnyIndex) -> Result<(), NoMemory>
+    requires form { is_of_form form.old index.now ≡ true }
+    requires kept { IsKept form.old }
+    ensures ok { OnOk result ((j : any_index) → has (listed form.new) j ≡ is_same_index j index.now || has (listed form.old) j) }
+    ensures absent { OnErr result (has (listed form.old) index.now ≡ false) }
+    ensures err { OnErr result (listed form.new ≡ listed form.old) }
+    ensures kept { IsKept form.new }
+    ensures ascending { IsStrictlySortedBy index_cmp (listed form.new) }
+{
+    match form {
+        MemberForm::Line(set) => put_in(set, index),
+        MemberForm::Plane(set) => put_in(set, index),
+        MemberForm::Solid(set) => put_in(set, index),
+        MemberForm::Text(set) => put_in(set, index),
+        MemberForm::Mixed(set) => put_in(set, index),
+    }
+}
+
+// Takes an index out, if it is there.
+fn take_form(form: &mut MemberForm, index: &AnyIndex)
+    requires { IsKept form.old }
+    ensures taken { (j : any_index) → has (listed form.new) j ≡ not (is_same_index j index.now) && has (listed form.old) j }
+    ensures kept { IsKept form.new }
+    ensures ascending { IsStrictlySortedBy index_cmp (listed form.new) }
+{
+    match form {
+        MemberForm::Line(set) => take_in(set, index),
+        MemberForm::Plane(set) => take_in(set, index),
+        MemberForm::Solid(set) => take_in(set, index),
+        MemberForm::Text(set) => take_in(set, index),
+        MemberForm::Mixed(set) => take_in(set, index),
+    }
+}
+
+// The same indices, of whatever form.
+fn mixed_of(alloc: Global, form: &MemberForm) -> Result<BTreeSet<AnyIndex>, NoMemory>
+    ensures { IfOk result (λ m. (j : any_index) → has (map (λ i. i) m.keys) j ≡ has (listed form.now) j) }
+{
+    match form {
+        MemberForm::Line(set) => mixed_in(alloc, set),
+        MemberForm::Plane(set) => mixed_in(alloc, set),
+        MemberForm::Solid(set) => mixed_in(alloc, set),
+        MemberForm::Text(set) => mixed_in(alloc, set),
+        MemberForm::Mixed(set) => mixed_in(alloc, set),
+    }
+}
+
+// One index, by its form.
+fn form_of(alloc: Global, index: &AnyIndex) -> Result<MemberForm, NoMemory>
+    ensures one { IfOk result (λ f. listed f ≡ index.now ∷ []) }
+    ensures kept { IfOk result IsKept }
+{
+    if has_form::<[i64; 1]>(index) {
+        return Ok(MemberForm::Line(one_in(alloc, index)?));
+    }
+    if has_form::<[i64; 2]>(index) {
+        return Ok(MemberForm::Plane(one_in(alloc, index)?));
+    }
+    if has_form::<[i64; 3]>(index) {
+        return Ok(MemberForm::Solid(one_in(alloc, index)?));
+    }
+    if has_form::<Label>(index) {
+        return Ok(MemberForm::Text(one_in(alloc, index)?));
+    }
+    Ok(MemberForm::Mixed(one_in(alloc, index)?))
+}
+
+// Indices, with one that is not of their form: as indices of whatever form.
+fn mixed_with(alloc: Global, form: &MemberForm, index: &AnyIndex) -> Result<MemberForm, NoMemory>
+    ensures added { IfOk result (λ f. (j : any_index) → has (listed f) j ≡ is_same_index j index.now || has (listed form.now) j) }
+    ensures kept { IfOk result IsKept }
+    ensures ascending { IfOk result (λ f. IsStrictlySortedBy index_cmp (listed f)) }
+{
+    let mut mixed = mixed_of(alloc, form)?;
+    put_in(&mut mixed, index)?;
+    Ok(MemberForm::Mixed(mixed))
+}
+
+impl MemberSet {
+    /// The set of one index.
+    pub(crate) fn of(alloc: Global, index: &AnyIndex) -> Result<MemberSet, NoMemory>
+        ensures { IfOk result (λ s. s ≡ index.now ∷ []) }
+    {
+        Ok(MemberSet {
+            form: form_of(alloc, index)?,
+        })
+    }
+
+    /// Whether the set has an index.
+    pub(crate) fn has(&self, index: &AnyIndex) -> bool
+        ensures { result ≡ has self.now index.now }
+    {
+        match &self.form {
+            MemberForm::Line(set) => has_in(set, index),
+            MemberForm::Plane(set) => has_in(set, index),
+            MemberForm::Solid(set) => has_in(set, index),
+            MemberForm::Text(set) => has_in(set, index),
+            MemberForm::Mixed(set) => has_in(set, index),
+        }
+    }
+
+    /// Adds an index. Where it is there, that takes no memory and can't fail.
+    pub(crate) fn put(&mut self, alloc: Global, index: &AnyIndex) -> Result<(), NoMemory>
+        ensures ok { OnOk result ((j : any_index) → has self.new j ≡ is_same_index j index.now || has self.old j) }
+        ensures absent { OnErr result (has self.old index.now ≡ false) }
+        ensures err { OnErr result (self.new ≡ self.old) }
+        ensures ascending { IsStrictlySortedBy index_cmp self.new }
+    {
+        // For the proof: the indices ascend.
+        let _count = self.count();
+        if fits(&self.form, index) {
+            return put_form(&mut self.form, index);
+        }
+        self.form = mixed_with(alloc, &self.form, index)?;
+        Ok(())
+    }
+
+    /// Takes an index out, if it is there. It takes no memory.
+    pub(crate) fn take(&mut self, index: &AnyIndex)
+        ensures taken { (j : any_index) → has self.new j ≡ not (is_same_index j index.now) && has self.old j }
+        ensures ascending { IsStrictlySortedBy index_cmp self.new }
+    {
+        take_form(&mut self.form, index);
+    }
+
+    /// How many indices there are.
+    pub(crate) fn count(&self) -> usize
+        ensures count { result ≡ length self.now }
+        ensures ascending { IsStrictlySortedBy index_cmp self.now }
+    {
+        match &self.form {
+            MemberForm::Line(set) => count_in(set),
+            MemberForm::Plane(set) => count_in(set),
+            MemberForm::Solid(set) => count_in(set),
+            MemberForm::Text(set) => count_in(set),
+            MemberForm::Mixed(set) => count_in(set),
+        }
+    }
+
+    /// The index at place `p`, ascending.
+    pub(crate) fn nth(&self, p: usize) -> Option<AnyIndex>
+        ensures { result ≡ slice_get self.now p }
+    {
+        match &self.form {
+            MemberForm::Line(set) => nth_in(set, p),
+            MemberForm::Plane(set) => nth_in(set, p),
+            MemberForm::Solid(set) => nth_in(set, p),
+            MemberForm::Text(set) => nth_in(set, p),
+            MemberForm::Mixed(set) => nth_in(set, p),
+        }
+    }
+
+    /// The indices, ascending.
+    pub(crate) fn list(&self, alloc: Global) -> Result<Vec<AnyIndex>, AllocError>
+        ensures { IfOk result (λ v. v.items ≡ self.now) }
+    {
+        match &self.form {
+            MemberForm::Line(set) => list_in(alloc, set),
+            MemberForm::Plane(set) => list_in(alloc, set),
+            MemberForm::Solid(set) => list_in(alloc, set),
+            MemberForm::Text(set) => list_in(alloc, set),
+            MemberForm::Mixed(set) => list_in(alloc, set),
+        }
+    }
+}
