@@ -5,3 +5,4 @@ pub mod Agreeing
 pub mod Fitting
 pub mod Placewise
 pub mod Finding
+pub mod Fronts

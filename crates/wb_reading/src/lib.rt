@@ -5,6 +5,7 @@
 #![tactic(auto)]
 
 mod books;
+mod compared;
 mod objects;
 mod printed;
 mod workbook;
@@ -15,6 +16,7 @@ ghost use Rattle.wb_text.specs.Lines.{book_text};
 ghost use Rattle.wb_text.specs.Parsed.Lines.{book_of as parsed};
 ghost use Rattle.wb_text.specs.Texts.Books.{if_text_of, book_in, is_book_text};
 
+use crate::compared::is_text_of;
 pub use crate::printed::print_book;
 pub use crate::workbook::rebuild;
 use std::alloc::Global;
@@ -40,8 +42,7 @@ fn same_text(alloc: Global, book: Book, text: &str) -> Result<Option<Book>, NoMe
     ensures other { IfOk result (λ r. IfNone r (text.now ≢ book_text book.cells)) }
     ensures kept { IfOk result (λ r. IfSome r (λ b. b ≡ book)) }
 {
-    let printed = print_book(alloc, &book)?;
-    if printed.as_str() == text {
+    if is_text_of(alloc, &book, text)? {
         Ok(Some(book))
     } else {
         Ok(None)
