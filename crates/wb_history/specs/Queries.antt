@@ -85,6 +85,11 @@ abbrev pub note_answer : Option Numbered → Result Answer Refusal
 note_answer (Some x) = Ok (NoteIs (note_of x.edit))
 note_answer None = Err NoSuchEdit
 
+-- the same of the note alone, if there is an edit
+abbrev pub note_told : Option (Option (List ℕ)) → Result Answer Refusal
+note_told (Some n) = Ok (NoteIs n)
+note_told None = Err NoSuchEdit
+
 abbrev pub answer : Cells → List Numbered → Query → Result Answer Refusal
 answer s es (Get a i) = value_answer (get_answer s a i)
 answer s es (Size d) = count_answer (size_answer s d)

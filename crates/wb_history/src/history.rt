@@ -1,7 +1,7 @@
 ghost use Rattle.std.specs.Prelude.{◌≡◌, ℕ, ◌+◌, ◌-◌, ◌<◌, ◌≤◌, length, take, [], ◌∷◌, ◌++◌, OnOk, OnErr, IfOk, IfErr, Ok, Err, true, false, option_map};
 ghost use Rattle.selective_undo.specs.History.{replay, IsLegal};
 ghost use Rattle.wb_cells.specs.Cells.{written_more};
-ghost use Rattle.wb_edit.specs.Edits.{meaning};
+ghost use Rattle.wb_edit.specs.Edits.{meaning, note_of};
 ghost use Rattle.wb_log.specs.Cascades.{DependentsReply, CascadeReply, OfNumber, NoShorter, OthersStay, OtherCellsStay, all_out_of_force, places, set_back};
 ghost use Rattle.wb_log.specs.Past.{meant, out_of_force, into_force, force_of};
 ghost use Rattle.wb_log.specs.Records.{lent_edit};
@@ -19,7 +19,7 @@ use std::alloc::Global;
 use std::marker::Model;
 use wb_arrays::Mover;
 use wb_book::Book;
-use wb_edit::Edit;
+use wb_edit::{Edit, Note};
 use wb_log::{Index, LentEdit, Record, Refusal, Undoer, steps};
 use wb_range::NoMemory;
 
@@ -269,9 +269,28 @@ impl History {
         Some(self.entries[at].is_in_force())
     }
 
-    /// The edit of a number, and whether it is in force; none where no edit has the number.
-    pub fn edit_at(&self, number: u64) -> Option<(LentEdit<'_>, bool)>
-        ensures { option_map (λ x. one_of (lent_edit x.0) x.1) result ≡ numbered_at self.now.entries number }
+    /// The edit of a number, and whether it is in force; none where no edit has the number. `NoMemory` where none is left for
+    /// several commands that are made for the moment.
+    pub fn edit_at(&self, number: u64) -> Result<Option<(LentEdit<'_>, bool)>, NoMemory>
+        ensures { IfOk result (λ found. option_map (λ x. one_of (lent_edit x.0) x.1) found ≡ numbered_at self.now.entries number) }
+    {
+        if number == 0 {
+            return Ok(None);
+        }
+        let at = (number - 1) as usize;
+        if at >= self.entries.len() {
+            return Ok(None);
+        }
+        let entry = &self.entries[at];
+        match entry.edit(self.alloc) {
+            Ok(edit) => Ok(Some((edit, entry.is_in_force()))),
+            Err(why) => Err(why),
+        }
+    }
+
+    // The note of the edit of a number, if it has one; none where no edit has the number.
+    fn note_at(&self, number: u64) -> Option<Option<&Note>>
+        ensures { option_map (λ n. option_map (λ m. m.now) n) result ≡ option_map (λ x. note_of x.edit) (numbered_at self.now.entries number) }
     {
         if number == 0 {
             return None;
@@ -280,8 +299,7 @@ impl History {
         if at >= self.entries.len() {
             return None;
         }
-        let entry = &self.entries[at];
-        Some((entry.edit(), entry.is_in_force()))
+        Some(self.entries[at].note())
     }
 
     /// Takes an edit in as the last one, out of force: nothing is tried or made.
@@ -309,7 +327,7 @@ impl History {
             Query::Piece(array, locale) => piece_answer(self.alloc, self.book(), *array, *locale),
             Query::Reduce(array, op) => reduce_answer(self.book(), *array, *op, mover),
             Query::State(number) => force_answer(self.in_force(*number)),
-            Query::Note(number) => note_answer(self.alloc, self.edit_at(*number)),
+            Query::Note(number) => note_answer(self.alloc, self.note_at(*number)),
         }
     }
 }

@@ -2,15 +2,13 @@
 
 ghost use Rattle.std.specs.Prelude.{◌≡◌, IfOk, option_map};
 ghost use Rattle.std.specs.Bool.{Decides};
-ghost use Rattle.wb_log.specs.Records.{lent_edit};
 ghost use Rattle.wb_history.specs.Pieces.{OrNoMemory};
-ghost use Rattle.wb_history.specs.Queries.{note_answer};
-ghost use Rattle.wb_history.specs.Restored.{one_of};
+ghost use Rattle.wb_history.specs.Queries.{note_told};
 
 use crate::query::Answer;
 use std::alloc::Global;
 use wb_edit::Note;
-use wb_log::{LentEdit, Refusal};
+use wb_log::Refusal;
 use wb_range::NoMemory;
 
 /// An equal note, if there is one; `NoMemory` where none is left.
@@ -37,16 +35,13 @@ pub(crate) fn is_same_note(note: &Option<Note>, other: &Option<Note>) -> bool
 }
 
 /// The note of an edit that was found as an answer, or that none was found, or that memory ran out.
-pub(crate) fn note_answer(
-    alloc: Global,
-    found: Option<(LentEdit<'_>, bool)>,
-) -> Result<Answer, Refusal>
-    ensures { OrNoMemory (note_answer (option_map (λ x. one_of (lent_edit x.0) x.1) found.entry)) result }
+pub(crate) fn note_answer(alloc: Global, found: Option<Option<&Note>>) -> Result<Answer, Refusal>
+    ensures { OrNoMemory (note_told (option_map (λ n. option_map (λ m. m.now) n) found.entry)) result }
 {
-    let Some((edit, _)) = found else {
+    let Some(note) = found else {
         return Err(Refusal::NoSuchEdit);
     };
-    let Some(note) = edit.as_edit().note() else {
+    let Some(note) = note else {
         return Ok(Answer::Note(None));
     };
     match note.copy(alloc) {

@@ -14,3 +14,5 @@ pub mod Shortest
 pub mod Whole
 pub mod Covered
 pub mod Straight
+pub mod Alike
+pub mod Held

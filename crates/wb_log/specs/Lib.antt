@@ -3,6 +3,7 @@ pub mod Replies
 pub mod Cascades
 pub mod Wants
 pub mod Kept
+pub mod Sets
 pub mod Records
 pub mod Needed
 pub mod Indexed

@@ -7,19 +7,23 @@ ghost use Rattle.wb_cells.specs.declared.cells.pattern.Pattern.TheVariants as pa
 ghost use Rattle.wb_cells.specs.Cells.{cell_cmp};
 ghost use Rattle.wb_edit.specs.declared.command.Command.TheVariants as command;
 ghost use Rattle.wb_edit.specs.declared.edit.Edit.TheVariants.{Command as OneCommand};
+ghost use Rattle.wb_edit.specs.Edits.{note_of};
 ghost use Rattle.wb_cells.specs.Reads.{all_read};
 ghost use Rattle.wb_log.specs.declared.entry.Before.TheVariants as before;
 ghost use Rattle.wb_log.specs.Kept.{kept_in};
 ghost use Rattle.wb_edit.specs.declared.asked_rectangle.AskedRectangle.TheVariants as asked_for;
 ghost use Rattle.wb_log.specs.Records.{element_reads, copy_reads, implicit_reads, member_edit, member_reads, filled_cell, fill_reads, value_before, before_in, cell_before};
-ghost use Rattle.wb_log.specs.Records.{lent_edit, lent_footprint, shown, kept_of};
+ghost use Rattle.wb_log.specs.Records.{lent_edit, lent_footprint, shown, kept_of, held_of};
+ghost use Rattle.wb_log.specs.Sets.{NameAlike};
 
+use crate::array_sets::ArraySets;
+use crate::cells_were::CellsWere;
 use std::alloc::Global;
 use std::marker::Model;
 use wb_cells::{
     AnyCell, AnyIndex, AnyRect, Cell, CellChange, Changes, Inverse, Name, Pattern, ReadRun, Value,
 };
-use wb_edit::{AskedRectangle, Command, Edit, Footprint};
+use wb_edit::{AskedRectangle, Command, Edit, Footprint, Note};
 use wb_range::NoMemory;
 
 /// What an edit in force read, and what takes it back.
@@ -106,8 +110,15 @@ pub struct Filled {
     pub(crate) was: Was,
 }
 
-/// How an entry is kept. Of all forms but the last, what the edit read, and what takes it back, follow from what the one cell
-/// held that it changed.
+/// Sets of elements of one array as one edit, and what the elements were, while the edit is in force.
+#[derive(Drop)]
+pub struct Sets {
+    pub(crate) edit: ArraySets,
+    pub(crate) were: Option<CellsWere>,
+}
+
+/// How an entry is kept. Of all forms but the last, what the edit read, and what takes it back, follow from what the cells held
+/// that it changed: one, or of sets as one edit as many as there are.
 #[derive(Drop)]
 pub enum Form {
     /// A new value of an element that was there.
@@ -120,6 +131,8 @@ pub enum Form {
     Member(Member),
     /// One number as one element.
     Fill(Box<Filled>),
+    /// New values of elements that were there, of one array, as one edit.
+    Sets(Box<Sets>),
     /// Any edit.
     Whole(Box<Entry>),
 }
@@ -172,13 +185,14 @@ pub enum LentFootprint<'a> {
     Irv([Pattern; 1], Inverse),
     Member([Pattern; 3], Inverse),
     Fill([Pattern; 2], Inverse),
+    Sets(&'a CellsWere),
     Lent(&'a Kept),
 }
 
 impl<'a> LentFootprint<'a> {
-    /// The patterns that the edit read first, and the runs of those behind them, in order.
+    /// Patterns, and runs of those behind them, that name the same places and cells as those that the edit read.
     pub fn reads(&self) -> (&[Pattern], &[ReadRun])
-        ensures { (lent_footprint self.now).reads ≡ result.0.now ++ all_read result.1.now }
+        ensures { NameAlike (lent_footprint self.now).reads (result.0.now ++ all_read result.1.now) }
     {
         match self {
             LentFootprint::Set(reads, _) => (reads, &[]),
@@ -186,6 +200,7 @@ impl<'a> LentFootprint<'a> {
             LentFootprint::Irv(reads, _) => (reads, &[]),
             LentFootprint::Member(reads, _) => (reads, &[]),
             LentFootprint::Fill(reads, _) => (reads, &[]),
+            LentFootprint::Sets(were) => were.reads(),
             LentFootprint::Lent(kept) => kept.footprint.parts(),
         }
     }
@@ -201,6 +216,7 @@ impl<'a> LentFootprint<'a> {
             LentFootprint::Irv(_, inverse) => inverse.before(),
             LentFootprint::Member(_, inverse) => inverse.before(),
             LentFootprint::Fill(_, inverse) => inverse.before(),
+            LentFootprint::Sets(were) => were.before(),
             LentFootprint::Lent(kept) => kept.inverse.before(),
         }
     }
@@ -403,7 +419,7 @@ impl Filled {
 }
 
 impl Form {
-    /// Keeps what the cell held, or none, where the edit is out of force. One that is kept whole is out of force then.
+    /// Keeps what the one cell held, or none, where the edit is out of force. One of another form is out of force then.
     pub(crate) fn keep(&mut self, was: Option<Before>)
         ensures { shown self.new ≡ record { edit = (shown self.old).edit; kept = kept_of self.old was } }
     {
@@ -414,11 +430,27 @@ impl Form {
             Form::Irv(implicit) => implicit.was = told,
             Form::Member(member) => member.was = told,
             Form::Fill(filled) => filled.was = told,
+            Form::Sets(sets) => sets.were = None,
             Form::Whole(entry) => entry.kept = None,
         }
     }
 
-    /// The edit, as a value of its own; `NoMemory` where none is left for one that is kept whole.
+    /// Keeps what the cells held of sets as one edit, which are in force then. Another form stays.
+    pub(crate) fn hold(&mut self, were: CellsWere)
+        ensures { shown self.new ≡ record { edit = (shown self.old).edit; kept = held_of self.old were } }
+    {
+        match self {
+            Form::Sets(sets) => sets.were = Some(were),
+            Form::Set(_)
+            | Form::Copy(_)
+            | Form::Irv(_)
+            | Form::Member(_)
+            | Form::Fill(_)
+            | Form::Whole(_) => {}
+        }
+    }
+
+    /// The edit, as a value of its own; `NoMemory` where none is left for one that is kept whole, or for several commands.
     pub(crate) fn copy_of_edit(&self, alloc: Global) -> Result<Edit, NoMemory>
         ensures { IfOk result (λ e. e ≡ (shown self.now).edit) }
     {
@@ -428,6 +460,7 @@ impl Form {
             Form::Irv(implicit) => Ok(implicit.edit()),
             Form::Member(member) => Ok(member.edit()),
             Form::Fill(filled) => Ok(filled.edit()),
+            Form::Sets(sets) => sets.edit.edit(alloc),
             Form::Whole(entry) => entry.edit.copy(alloc),
         }
     }
@@ -461,17 +494,32 @@ impl Record {
         }
     }
 
-    /// The edit.
-    pub fn edit(&self) -> LentEdit<'_>
-        ensures { lent_edit result ≡ self.now.edit }
+    /// The edit; `NoMemory` where none is left for several commands that are made for the moment.
+    pub fn edit(&self, alloc: Global) -> Result<LentEdit<'_>, NoMemory>
+        ensures { IfOk result (λ e. lent_edit e ≡ self.now.edit) }
     {
         match &self.form {
-            Form::Set(element) => LentEdit::Own(element.edit()),
-            Form::Copy(copied) => LentEdit::Own(copied.edit()),
-            Form::Irv(implicit) => LentEdit::Own(implicit.edit()),
-            Form::Member(member) => LentEdit::Own(member.edit()),
-            Form::Fill(filled) => LentEdit::Own(filled.edit()),
-            Form::Whole(entry) => LentEdit::Lent(&entry.edit),
+            Form::Set(element) => Ok(LentEdit::Own(element.edit())),
+            Form::Copy(copied) => Ok(LentEdit::Own(copied.edit())),
+            Form::Irv(implicit) => Ok(LentEdit::Own(implicit.edit())),
+            Form::Member(member) => Ok(LentEdit::Own(member.edit())),
+            Form::Fill(filled) => Ok(LentEdit::Own(filled.edit())),
+            Form::Sets(sets) => match sets.edit.edit(alloc) {
+                Ok(edit) => Ok(LentEdit::Own(edit)),
+                Err(why) => Err(why),
+            },
+            Form::Whole(entry) => Ok(LentEdit::Lent(&entry.edit)),
+        }
+    }
+
+    /// The note of the edit, if it has one.
+    pub fn note(&self) -> Option<&Note>
+        ensures { option_map (λ n. n.now) result ≡ note_of self.now.edit }
+    {
+        match &self.form {
+            Form::Set(_) | Form::Copy(_) | Form::Irv(_) | Form::Member(_) | Form::Fill(_) => None,
+            Form::Sets(sets) => sets.edit.note(),
+            Form::Whole(entry) => entry.edit.note(),
         }
     }
 
@@ -485,6 +533,7 @@ impl Record {
             Form::Irv(implicit) => implicit.was.before().is_some(),
             Form::Member(member) => member.was.before().is_some(),
             Form::Fill(filled) => filled.was.before().is_some(),
+            Form::Sets(sets) => sets.were.is_some(),
             Form::Whole(entry) => entry.kept.is_some(),
         }
     }
@@ -528,6 +577,10 @@ impl Record {
                     filled.reads(),
                     set_back(filled.cell(), &was),
                 )),
+            },
+            Form::Sets(sets) => match &sets.were {
+                None => None,
+                Some(were) => Some(LentFootprint::Sets(were)),
             },
             Form::Whole(entry) => match &entry.kept {
                 None => None,
@@ -580,6 +633,39 @@ fn ranges_of_one(asked: &AskedRectangle) -> Option<AnyRect>
     }
 }
 
+// A transaction, out of force.
+fn several_aside(alloc: Global, edit: Edit) -> Result<Form, NoMemory>
+    ensures { IfOk result (λ f. shown f ≡ record { edit = edit; kept = None }) }
+{
+    match sets_in(alloc, &edit) {
+        Err(why) => Err(why),
+        Ok(None) => whole_aside(alloc, edit),
+        Ok(Some(sets)) => sets_aside(alloc, sets),
+    }
+}
+
+// The sets of elements of one array that an edit is, if it is a transaction of these.
+fn sets_in(alloc: Global, edit: &Edit) -> Result<Option<ArraySets>, NoMemory>
+    ensures { IfOk result (λ o. IfSome o (λ s. s ≡ edit.now)) }
+{
+    match edit {
+        Edit::Transaction(several) => ArraySets::of(alloc, several),
+        Edit::Command(_) => Ok(None),
+        Edit::Load(_) => Ok(None),
+    }
+}
+
+// Sets of elements of one array as one edit, out of force.
+fn sets_aside(alloc: Global, sets: ArraySets) -> Result<Form, NoMemory>
+    ensures { IfOk result (λ f. shown f ≡ record { edit = sets; kept = None }) }
+{
+    let sets = Sets {
+        edit: sets,
+        were: None,
+    };
+    Ok(Form::Sets(Box::new(alloc, sets)?))
+}
+
 // An edit that is kept whole, out of force.
 fn whole_aside(alloc: Global, edit: Edit) -> Result<Form, NoMemory>
     ensures { IfOk result (λ f. shown f ≡ record { edit = edit; kept = None }) }
@@ -620,6 +706,6 @@ fn form_aside(alloc: Global, edit: Edit) -> Result<Form, NoMemory>
             Some(on) => fill_aside(alloc, array, &on, *value),
             None => whole_aside(alloc, edit),
         },
-        _ => whole_aside(alloc, edit),
+        _ => several_aside(alloc, edit),
     }
 }

@@ -4,16 +4,20 @@
 //! Its tests are in the crate `wb_tests`.
 #![tactic(auto)]
 
+mod array_sets;
 mod blockers;
+mod cells_were;
 mod entry;
 mod index;
 mod refusal;
 pub mod steps;
 mod sweep;
 
+pub use crate::array_sets::{ArraySets, PointSets, SetList};
+pub use crate::cells_were::CellsWere;
 pub use crate::entry::{
     Before, Copied, Element, Entry, Filled, Form, Implicit, Kept, LentEdit, LentFootprint, Member,
-    Record, Was,
+    Record, Sets, Was,
 };
 pub use crate::index::Index;
 pub use crate::refusal::Refusal;

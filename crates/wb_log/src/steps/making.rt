@@ -8,9 +8,11 @@ ghost use Rattle.wb_cells.specs.Cells.{Cells, cell_cmp, written_more, count_of};
 ghost use Rattle.wb_cells.specs.WellFormed.{IsWellFormed};
 ghost use Rattle.wb_cells.specs.Reads.{read_in, all_read, patterns_of};
 ghost use Rattle.wb_cells.specs.declared.cells.pattern.Pattern.TheVariants.{One};
-ghost use Rattle.wb_log.specs.Records.{shown, kept_of, cell_before, value_before};
+ghost use Rattle.wb_log.specs.Records.{shown, kept_of, held_of, cell_before, value_before};
 
+use crate::cells_were::CellsWere;
 use crate::entry::{Before, Entry, Form, Kept, Record};
+use crate::steps::held;
 use std::alloc::Global;
 use wb_arrays::Mover;
 use wb_book::Book;
@@ -26,7 +28,7 @@ pub(crate) fn is_same(a: &Cell, b: &Cell) -> bool
 }
 
 // Whether the patterns are equal. It may miss that, but not the other way round.
-fn is_same_pattern(pattern: &Pattern, other: &Pattern) -> bool
+pub(crate) fn is_same_pattern(pattern: &Pattern, other: &Pattern) -> bool
     ensures { result ≡ true → pattern.now ≡ other.now }
 {
     match pattern {
@@ -166,7 +168,24 @@ fn old_of(book: &Book, form: &Form, delta: &Delta, footprint: &Footprint) -> Opt
         ),
         Form::Member(member) => old_value(book, &member.reads(), &member.cell(), delta, footprint),
         Form::Fill(filled) => old_value(book, &filled.reads(), &filled.cell(), delta, footprint),
+        Form::Sets(_) => None,
         Form::Whole(_) => None,
+    }
+}
+
+// What the cells held that sets as one edit changed, where what they read, and what takes them back, follow from that.
+fn olds_of(
+    alloc: Global,
+    book: &Book,
+    form: &Form,
+    delta: &Delta,
+    footprint: &Footprint,
+) -> Result<Option<CellsWere>, NoMemory>
+    ensures { IfOk result (λ o. IfSome o (λ were. held_of form.now were ≡ Some (record { footprint = footprint.now; inverse = inverse delta.now book.now.cells }))) }
+{
+    match form {
+        Form::Sets(sets) => held::held_of(alloc, book, &sets.edit.object(), delta, footprint),
+        _ => Ok(None),
     }
 }
 
@@ -258,7 +277,7 @@ fn make_unlike<M: Mover>(
 }
 
 // Makes the changes, and keeps what takes them back: what the one cell held, where all else follows from it.
-fn make_form<M: Mover>(
+fn make_one<M: Mover>(
     alloc: Global,
     book: &mut Book,
     form: &mut Form,
@@ -283,6 +302,39 @@ fn make_form<M: Mover>(
             Err(_) => Err(NoMemory),
             Ok(_) => {
                 form.keep(Some(was));
+                Ok(())
+            }
+        },
+    }
+}
+
+// Makes the changes, and keeps what takes them back: what the cells held, where all else follows from it.
+fn make_form<M: Mover>(
+    alloc: Global,
+    book: &mut Book,
+    form: &mut Form,
+    delta: Delta,
+    footprint: Footprint,
+    mover: &M,
+) -> Result<(), NoMemory>
+    requires well_formed { IsWellFormed (apply delta book.old.cells) }
+    ensures form { OnOk result (shown form.new ≡ record {
+      edit = (shown form.old).edit;
+      kept =
+          Some (record { footprint = footprint; inverse = inverse delta book.old.cells });
+    }) }
+    ensures cells { OnOk result (book.new.cells ≡ apply delta book.old.cells) }
+    ensures writes { OnOk result (book.new.writes ≡ written_more book.old.writes (count_of delta)) }
+    ensures form_stays { OnErr result (shown form.new ≡ shown form.old) }
+    ensures book_stays { OnErr result (book.new ≡ book.old) }
+{
+    match olds_of(alloc, book, form, &delta, &footprint) {
+        Err(why) => Err(why),
+        Ok(None) => make_one(alloc, book, form, delta, footprint, mover),
+        Ok(Some(were)) => match book.apply(delta, mover) {
+            Err(_) => Err(NoMemory),
+            Ok(_) => {
+                form.hold(were);
                 Ok(())
             }
         },

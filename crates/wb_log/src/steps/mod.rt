@@ -3,6 +3,7 @@
 pub mod aside;
 pub mod cascade;
 pub mod edit;
+mod held;
 pub mod making;
 pub mod redo;
 pub mod undo;

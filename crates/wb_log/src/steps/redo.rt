@@ -25,8 +25,10 @@ use wb_range::NoMemory;
 fn plan_of(alloc: Global, book: &Book, entry: &Record) -> Result<(Delta, Footprint, usize), PlanErr>
     ensures { IsPlan (meaning entry.now.edit) book.now.cells result }
 {
-    let edit = entry.edit();
-    plan(alloc, book, edit.as_edit())
+    match entry.edit(alloc) {
+        Ok(edit) => plan(alloc, book, edit.as_edit()),
+        Err(_) => Err(PlanErr::NoMemory),
+    }
 }
 
 /// Plans an edit out of force again, unless a later one is in its way.

@@ -71,7 +71,7 @@ fn push_edits(
     ensures json { OnOk result (AreJson (drop first history.now.entries)) }
 {
     for before in first..history.len() {
-        match history.edit_at(before + 1) {
+        match history.edit_at(before + 1)? {
             Some((edit, in_force)) => push_edit(alloc, out, edit.as_edit(), in_force)?,
             None => unreachable!(),
         }

@@ -1,12 +1,15 @@
-use Rattle.std.proofs.Common.{sym, ap, ◌∙◌}
+use Rattle.std.proofs.Common.{◌++◌, sym, ap, ◌∙◌}
 use Rattle.selective_undo.specs.Log.{meets_any}
+use Rattle.wb_cells.specs.Reads.{all_read}
 use Rattle.wb_log.specs.Kept.{footprint}
 use Rattle.wb_log.specs.Records.{lent_footprint}
+use Rattle.wb_log.proofs.Alike.{meets_alike}
 use Rattle.wb_log.proofs.blockers.is_met.Goals as goal
 
 pub returns : goal.returns
 returns c =
     let k = lent_footprint c.args.kept.now in
-    let reads = ap (λ rs. footprint rs c.before-2.result.now) (sym c.reads.ensures) in
-    let told = reads ∙ ap (λ bs. footprint k.reads bs) c.before-2.ensures.same in
-    c.meets_any.ensures ∙ ap (λ f. meets_any f c.args.cells.now) told
+    let named = c.reads.result.0.now ++ all_read c.reads.result.1.now in
+    let bs = c.before-2.result.now in
+    c.meets_any.ensures ∙ sym (meets_alike k.reads named bs c.args.cells.now c.reads.ensures) ∙
+    ap (λ xs. meets_any (footprint k.reads xs) c.args.cells.now) c.before-2.ensures.same
