@@ -78,6 +78,76 @@ const BLOCKED_AND_BLOCKING: &str = r#"
 {"op":"redo","k":2} -> {"code":"E04","error":"E16","name":"refused-in-place"}
 "#;
 
+// Sets of elements of one array as one edit: in force, blocked, undone and redone, with a note, and told again.
+const SETS: &str = r#"
+{"op":"transaction","edits":[{"op":"set","a":"A","i":3,"v":7},{"op":"set","a":"A","i":2,"v":8}],"note":"two"} -> {"edit":4,"n":2}
+{"op":"piece","a":"A","l":0} -> {"piece":[[1,0],[2,8],[3,7],[4,0]]}
+{"op":"note","k":4} -> {"note":"two"}
+{"op":"state","k":4} -> {"in_force":true}
+{"op":"history","from":4} -> {"edits":4,"text":"+ {\"edits\":[{\"a\":\"A\",\"i\":3,\"op\":\"set\",\"v\":7},{\"a\":\"A\",\"i\":2,\"op\":\"set\",\"v\":8}],\"note\":\"two\",\"op\":\"transaction\"}\n"}
+{"op":"copy","a":"A","i":4,"b":"A","j":2,"c":1} -> {"edit":5,"n":1}
+{"op":"piece","a":"A","l":0} -> {"piece":[[1,0],[2,8],[3,7],[4,9]]}
+{"op":"undo","k":4} -> {"by":5,"error":"E14","name":"blocked"}
+{"op":"undo","k":3} -> {"by":4,"error":"E14","name":"blocked"}
+{"op":"dependents","k":4} -> {"dependents":[5,4]}
+{"op":"dependents","k":2} -> {"dependents":[5,4,3,2]}
+{"op":"undo","k":5} -> {"n":1,"undone":5}
+{"op":"undo","k":4} -> {"n":2,"undone":4}
+{"op":"piece","a":"A","l":0} -> {"piece":[[1,0],[2,5],[3,0],[4,0]]}
+{"op":"note","k":4} -> {"note":"two"}
+{"op":"state","k":4} -> {"in_force":false}
+{"op":"history","from":5} -> {"edits":5,"text":"- {\"a\":\"A\",\"b\":\"A\",\"c\":1,\"i\":4,\"j\":2,\"op\":\"copy\"}\n"}
+{"op":"set","a":"A","i":2,"v":1} -> {"edit":6,"n":1}
+{"op":"redo","k":4} -> {"by":6,"error":"E14","name":"blocked"}
+{"op":"undo"} -> {"n":1,"undone":6}
+{"op":"redo","k":4} -> {"n":2,"redone":4}
+{"op":"piece","a":"A","l":0} -> {"piece":[[1,0],[2,8],[3,7],[4,0]]}
+{"op":"undo","k":3} -> {"by":4,"error":"E14","name":"blocked"}
+{"op":"undo"} -> {"n":2,"undone":4}
+{"op":"piece","a":"A","l":0} -> {"piece":[[1,0],[2,5],[3,0],[4,0]]}
+{"op":"undo","k":3} -> {"n":1,"undone":3}
+{"op":"undo","k":2} -> {"n":7,"undone":2}
+{"op":"redo","k":4} -> {"at":0,"code":"E04","error":"E16","name":"refused-in-place"}
+{"op":"redo","k":2} -> {"n":7,"redone":2}
+{"op":"redo","k":4} -> {"n":2,"redone":4}
+{"op":"undo","k":2} -> {"by":4,"error":"E14","name":"blocked"}
+{"op":"undo","k":4} -> {"n":2,"undone":4}
+{"op":"piece","a":"A","l":0} -> {"piece":[[1,0],[2,0],[3,0],[4,0]]}
+"#;
+
+// Sets of one element twice, of two arrays, at pairs and at texts.
+const OTHER_SETS: &str = r#"
+{"op":"transaction","edits":[{"op":"set","a":"A","i":1,"v":6},{"op":"set","a":"A","i":1,"v":7}]} -> {"edit":4,"n":1}
+{"op":"undo","k":4} -> {"n":1,"undone":4}
+{"op":"piece","a":"A","l":0} -> {"piece":[[1,0],[2,5],[3,0],[4,0]]}
+{"op":"redo","k":4} -> {"n":1,"redone":4}
+{"op":"array","a":"B","d":"D"} -> {"edit":5,"n":7}
+{"op":"transaction","edits":[{"op":"set","a":"A","i":1,"v":9},{"op":"set","a":"B","i":1,"v":4}]} -> {"edit":6,"n":2}
+{"op":"undo","k":5} -> {"by":6,"error":"E14","name":"blocked"}
+{"op":"undo","k":6} -> {"n":2,"undone":6}
+{"op":"piece","a":"A","l":0} -> {"piece":[[1,7],[2,5],[3,0],[4,0]]}
+{"op":"redo","k":6} -> {"n":2,"redone":6}
+{"op":"domain","d":"E","is":"{1..2, 1..2}"} -> {"edit":7,"n":3}
+{"op":"array","a":"C","d":"E"} -> {"edit":8,"n":7}
+{"op":"transaction","edits":[{"op":"set","a":"C","i":[2,1],"v":3},{"op":"set","a":"C","i":[1,2],"v":-3}]} -> {"edit":9,"n":2}
+{"op":"transaction","edits":[{"op":"set","a":"C","i":[1,2],"v":6},{"op":"set","a":"C","i":[2,1],"v":4}]} -> {"edit":10,"n":2}
+{"op":"undo","k":9} -> {"by":10,"error":"E14","name":"blocked"}
+{"op":"undo","k":10} -> {"n":2,"undone":10}
+{"op":"piece","a":"C","l":0} -> {"piece":[[[1,1],0],[[1,2],-3],[[2,1],3],[[2,2],0]]}
+{"op":"undo","k":9} -> {"n":2,"undone":9}
+{"op":"history","from":10} -> {"edits":10,"text":"- {\"edits\":[{\"a\":\"C\",\"i\":[1,2],\"op\":\"set\",\"v\":6},{\"a\":\"C\",\"i\":[2,1],\"op\":\"set\",\"v\":4}],\"op\":\"transaction\"}\n"}
+{"op":"redo","k":9} -> {"n":2,"redone":9}
+{"op":"piece","a":"C","l":0} -> {"piece":[[[1,1],0],[[1,2],-3],[[2,1],3],[[2,2],0]]}
+{"op":"assoc","d":"K","of":"text"} -> {"edit":11,"n":1}
+{"op":"add","d":"K","i":"x"} -> {"edit":12,"n":1}
+{"op":"add","d":"K","i":"y"} -> {"edit":13,"n":1}
+{"op":"array","a":"T","d":"K"} -> {"edit":14,"n":5}
+{"op":"transaction","edits":[{"op":"set","a":"T","i":"y","v":1},{"op":"set","a":"T","i":"x","v":2}],"note":"texts"} -> {"edit":15,"n":2}
+{"op":"undo"} -> {"n":2,"undone":15}
+{"op":"redo","k":15} -> {"n":2,"redone":15}
+{"op":"piece","a":"T","l":0} -> {"piece":[["x",2],["y",1]]}
+"#;
+
 // What is no request: the least code of all that is wrong, also within the commands.
 const NO_REQUESTS: &str = r#"
 {"op":"transaction"} -> {"error":"E01","name":"bad-request"}
@@ -133,11 +203,13 @@ const TEXTS: &str = r#"
 "#;
 
 /// Each script, over a history of its own.
-pub const SCRIPTS: [Script; 7] = [
+pub const SCRIPTS: [Script; 9] = [
     ("", ONE_EDIT, 2, 32),
     (BUILT, REFUSED, 3, 11),
     (BUILT, TWICE, 5, 20),
     (BUILT, BLOCKED_AND_BLOCKING, 7, 36),
+    (BUILT, SETS, 6, 42),
+    (BUILT, OTHER_SETS, 15, 61),
     ("", NO_REQUESTS, 0, 0),
     ("", EXPLAINED, 0, 0),
     (BUILT, TEXTS, 6, 31),
