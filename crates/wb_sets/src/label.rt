@@ -1,4 +1,4 @@
-ghost use Rattle.std.specs.Prelude.{◌≡◌, ℕ, ◌≤◌, List, length, IfOk, is_ok};
+ghost use Rattle.std.specs.Prelude.{◌≡◌, ℕ, ◌≤◌, List, ◌++◌, length, drop, replicate, IfOk, is_ok};
 ghost use Rattle.std.specs.Ordering.{nat_cmp, as_partial_cmp, eq_by_cmp};
 ghost use Rattle.std.specs.Cmp.Lexicographic.{slice_cmp, nat_list_cmp_total};
 ghost use Rattle.std.specs.FinMap.{slice_cmp-IsAntisymmetric, nat_cmp-IsAntisymmetric};
@@ -41,11 +41,11 @@ impl Model for Label {
 
     ghost view = { λ n. take n.len n.bytes };
 
-    ghost invariant = { λ n. IsPacked n.bytes n.len };
+    ghost invariant = { λ n. IsPacked 64 n.bytes n.len };
 
-    ghost inverse = { λ v. record { bytes = padded v; len = length v } };
+    ghost inverse = { λ v. record { bytes = padded 64 v; len = length v } };
 
-    ghost inverse_ok = { λ a h. λ i. record { bytes = padded-take a.bytes a.len h i; len = length-take a.bytes a.len h i } };
+    ghost inverse_ok = { λ a h. λ i. record { bytes = padded-take 64 a.bytes a.len h i; len = length-take 64 a.bytes a.len h i } };
 }
 
 impl Label {
@@ -73,7 +73,7 @@ impl Label {
     }
 
     // The bytes of the text.
-    fn as_bytes(&self) -> &[u8]
+    pub(crate) fn as_bytes(&self) -> &[u8]
         ensures value { result.now ≡ self.now }
         ensures label { IsLabel self.now }
     {
@@ -82,17 +82,24 @@ impl Label {
 }
 
 // The label with these bytes.
-fn packed(source: &[u8]) -> Label
+pub(crate) fn packed(source: &[u8]) -> Label
     requires { IsLabel source.now }
     ensures { result ≡ source.now }
 {
-    let mut bytes = [0; MAX_BYTES];
-    let len = source.len();
-    bytes[..len].copy_from_slice(source);
     Label {
-        bytes,
-        len: len as u8,
+        bytes: over_zeros(source),
+        len: source.len() as u8,
     }
+}
+
+// These bytes and zeros behind them.
+pub(crate) fn over_zeros<const N: usize>(source: &[u8]) -> [u8; N]
+    requires { length source.now ≤ N }
+    ensures { result ≡ source.now ++ drop (length source.now) (replicate N 0) }
+{
+    let mut bytes = [0; N];
+    bytes[..source.len()].copy_from_slice(source);
+    bytes
 }
 
 // Whether these bytes of a text are those of a label.

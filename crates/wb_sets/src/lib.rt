@@ -14,8 +14,10 @@
 mod assoc;
 mod label;
 mod merging;
+mod short_label;
 mod sparse;
 
 pub use crate::assoc::Assoc;
 pub use crate::label::{BadLabel, Label};
+pub use crate::short_label::ShortLabel;
 pub use crate::sparse::{Sparse, SparseErr};
