@@ -1,5 +1,5 @@
 -- Keys of one form, and the indices that they stand for.
-use Rattle.std.proofs.Common.{◌≡◌, Bool, true, false, cond, not, ◌&&◌, ◌||◌, List, [], ◌∷◌, map, Result, Ok, Err, OnErr, refl, sym, ap, subst, ◌∙◌}
+use Rattle.std.proofs.Common.{◌≡◌, ℕ, Bool, true, false, cond, not, ◌&&◌, ◌||◌, List, [], ◌∷◌, map, Result, Ok, Err, OnErr, refl, sym, ap, subst, ◌∙◌}
 use Rattle.std.specs.BTreeMap.{is_at}
 use Rattle.std.specs.BTreeSet.{insert_key}
 use Rattle.std.specs.Cmp.{eq_by_cmp_equiv}
@@ -12,6 +12,8 @@ use Rattle.std.specs.declared.cmp.Ordering.TheVariants.{Less, Equal, Greater}
 use Rattle.wb_cells.specs.contracts.values.index.IndexOrd.TheImpl.Laws as index_laws
 use Rattle.wb_cells.specs.declared.values.index.Index.{Index}
 use Rattle.wb_cells.specs.Cells.{index_cmp, index_cmp-IsAntisymmetric, is_same_index}
+use Rattle.wb_cells.specs.declared.values.index.Index.TheVariants.{Text}
+use Rattle.wb_cells.specs.Kinds.{is_text}
 use Rattle.wb_cells.specs.WellFormed.{has}
 
 equal : (o : Ordering) → is_eq o ≡ true → o ≡ Equal
@@ -54,6 +56,11 @@ anyway (Err e) P p = p
 pub all_any : (is : List Index) → list_all (λ i. true) is ≡ true
 all_any [] = refl
 all_any (i ∷ is) = all_any is
+
+-- the indices of labels are texts
+pub all_texts : (texts : List (List ℕ)) → list_all is_text (map Text texts) ≡ true
+all_texts [] = refl
+all_texts (t ∷ texts) = all_texts texts
 
 module _ {K : Type 0} (cmp : K → K → Ordering) (f : K → Index) (alike : (x y : K) → index_cmp (f x) (f y) ≡ cmp x y) where
   -- the index of a key is among them just where the key is

@@ -1,5 +1,5 @@
 -- Kinds of domains, and which indices they may have.
-use Rattle.std.specs.Prelude.{ℕ, ◌==◌, Bool, true, false, length, FitsSigned}
+use Rattle.std.specs.Prelude.{ℕ, ◌==◌, nat_le, Bool, true, false, length, FitsSigned}
 use Rattle.std.specs.Int.{w64}
 use Rattle.std.specs.List.{All}
 use Rattle.wb_sets.specs.Labels.{IsLabel}
@@ -25,6 +25,11 @@ is_point rank (Text t) = false
 abbrev pub is_text : Index → Bool
 is_text (Point is) = false
 is_text (Text t) = true
+
+-- a text of at most 23 bytes
+abbrev pub is_short_text : Index → Bool
+is_short_text (Point is) = false
+is_short_text (Text t) = nat_le (length t) 23
 
 -- the indices of a rectangular or sparse domain have as many coordinates as it has dimensions; those of an associative one
 -- are integers or texts, by its type (Chapel Language Specification, Domains)

@@ -1,10 +1,11 @@
-//! The indices of a sparse or associative domain, ascending: by their form, as integers, pairs, triples or texts.
+//! The indices of a sparse or associative domain, ascending: by their form, as integers, pairs, triples, short texts or texts.
 
 ghost use Rattle.std.specs.Prelude.{◌≡◌, ◌||◌, ◌&&◌, not, List, [], ◌∷◌, true, false, map, length, slice_get, IfOk, OnOk, OnErr};
 ghost use Rattle.std.specs.Bool.{Decides};
 ghost use Rattle.std.specs.List.{list_all};
 ghost use Rattle.std.specs.List.Sorted.{IsStrictlySortedBy};
 ghost use Rattle.wb_cells.specs.declared.values.index.Index.{Index as any_index};
+ghost use Rattle.wb_cells.specs.declared.values.index.Index.TheVariants.{Text as text_index};
 ghost use Rattle.wb_cells.specs.Cells.{index_cmp, is_same_index};
 ghost use Rattle.wb_cells.specs.WellFormed.{has};
 ghost use Rattle.wb_cells.specs.MemberSets.{listed, is_of_form, IsKept};
@@ -15,7 +16,7 @@ use std::alloc::{AllocError, Global};
 use std::collections::BTreeSet;
 use std::marker::Model;
 use wb_range::NoMemory;
-use wb_sets::Label;
+use wb_sets::{Label, ShortLabel};
 
 /// Indices by their form.
 #[derive(Drop)]
@@ -26,6 +27,8 @@ pub(crate) enum MemberForm {
     Plane(BTreeSet<[i64; 2]>),
     /// Triples.
     Solid(BTreeSet<[i64; 3]>),
+    /// Texts of at most 23 bytes.
+    Short(BTreeSet<ShortLabel>),
     /// Texts.
     Text(BTreeSet<Label>),
     /// Indices of more than one form, which no domain has.
@@ -139,15 +142,37 @@ fn list_in<K: AsIndex>(alloc: Global, set: &BTreeSet<K>) -> Result<Vec<AnyIndex>
         .collect(alloc)
 }
 
-// The same indices, of whatever form.
-fn mixed_in<K: AsIndex>(alloc: Global, set: &BTreeSet<K>) -> Result<BTreeSet<AnyIndex>, NoMemory>
-    ensures same { IfOk result (λ m. (j : any_index) → has (map (λ i. i) m.keys) j ≡ has (map K.as_index set.now.keys) j) }
+// The same indices by other keys, which stand for each of them.
+fn same_in<K: AsIndex, L: AsIndex>(
+    alloc: Global,
+    set: &BTreeSet<K>,
+) -> Result<BTreeSet<L>, NoMemory>
+    requires { list_all L.is_of (map K.as_index set.now.keys) ≡ true }
+    ensures same { IfOk result (λ s. (j : any_index) → has (map L.as_index s.keys) j ≡ has (map K.as_index set.now.keys) j) }
+    ensures kept { IfOk result (λ s. list_all L.is_of (map L.as_index s.keys) ≡ true) }
 {
-    let mut mixed = BTreeSet::new(alloc);
+    let mut same = BTreeSet::new(alloc);
     for key in set {
-        put_in(&mut mixed, &key.any())?;
+        put_in(&mut same, &key.any())?;
     }
-    Ok(mixed)
+    Ok(same)
+}
+
+// The same indices and one more, by other keys, which stand for each of them.
+fn more_in<K: AsIndex, L: AsIndex>(
+    alloc: Global,
+    set: &BTreeSet<K>,
+    index: &AnyIndex,
+) -> Result<BTreeSet<L>, NoMemory>
+    requires form { L.is_of index.now ≡ true }
+    requires kept { list_all L.is_of (map K.as_index set.now.keys) ≡ true }
+    ensures added { IfOk result (λ s. (j : any_index) → has (map L.as_index s.keys) j ≡ is_same_index j index.now || has (map K.as_index set.now.keys) j) }
+    ensures kept { IfOk result (λ s. list_all L.is_of (map L.as_index s.keys) ≡ true) }
+    ensures ascending { IfOk result (λ s. IsStrictlySortedBy index_cmp (map L.as_index s.keys)) }
+{
+    let mut more = same_in(alloc, set)?;
+    put_in(&mut more, index)?;
+    Ok(more)
 }
 
 // A set of one index, which has the form.
@@ -175,6 +200,7 @@ fn fits(form: &MemberForm, index: &AnyIndex) -> bool
         MemberForm::Line(_) => has_form::<[i64; 1]>(index),
         MemberForm::Plane(_) => has_form::<[i64; 2]>(index),
         MemberForm::Solid(_) => has_form::<[i64; 3]>(index),
+        MemberForm::Short(_) => has_form::<ShortLabel>(index),
         MemberForm::Text(_) => has_form::<Label>(index),
         MemberForm::Mixed(_) => has_form::<AnyIndex>(index),
     }
@@ -194,6 +220,7 @@ fn put_form(form: &mut MemberForm, index: &AnyIndex) -> Result<(), NoMemory>
         MemberForm::Line(set) => put_in(set, index),
         MemberForm::Plane(set) => put_in(set, index),
         MemberForm::Solid(set) => put_in(set, index),
+        MemberForm::Short(set) => put_in(set, index),
         MemberForm::Text(set) => put_in(set, index),
         MemberForm::Mixed(set) => put_in(set, index),
     }
@@ -210,21 +237,9 @@ fn take_form(form: &mut MemberForm, index: &AnyIndex)
         MemberForm::Line(set) => take_in(set, index),
         MemberForm::Plane(set) => take_in(set, index),
         MemberForm::Solid(set) => take_in(set, index),
+        MemberForm::Short(set) => take_in(set, index),
         MemberForm::Text(set) => take_in(set, index),
         MemberForm::Mixed(set) => take_in(set, index),
-    }
-}
-
-// The same indices, of whatever form.
-fn mixed_of(alloc: Global, form: &MemberForm) -> Result<BTreeSet<AnyIndex>, NoMemory>
-    ensures { IfOk result (λ m. (j : any_index) → has (map (λ i. i) m.keys) j ≡ has (listed form.now) j) }
-{
-    match form {
-        MemberForm::Line(set) => mixed_in(alloc, set),
-        MemberForm::Plane(set) => mixed_in(alloc, set),
-        MemberForm::Solid(set) => mixed_in(alloc, set),
-        MemberForm::Text(set) => mixed_in(alloc, set),
-        MemberForm::Mixed(set) => mixed_in(alloc, set),
     }
 }
 
@@ -242,21 +257,58 @@ fn form_of(alloc: Global, index: &AnyIndex) -> Result<MemberForm, NoMemory>
     if has_form::<[i64; 3]>(index) {
         return Ok(MemberForm::Solid(one_in(alloc, index)?));
     }
+    if has_form::<ShortLabel>(index) {
+        return Ok(MemberForm::Short(one_in(alloc, index)?));
+    }
     if has_form::<Label>(index) {
         return Ok(MemberForm::Text(one_in(alloc, index)?));
     }
     Ok(MemberForm::Mixed(one_in(alloc, index)?))
 }
 
-// Indices, with one that is not of their form: as indices of whatever form.
-fn mixed_with(alloc: Global, form: &MemberForm, index: &AnyIndex) -> Result<MemberForm, NoMemory>
+// Indices and one more, whatever their forms.
+fn mixed_with<K: AsIndex>(
+    alloc: Global,
+    set: &BTreeSet<K>,
+    index: &AnyIndex,
+) -> Result<MemberForm, NoMemory>
+    ensures added { IfOk result (λ f. (j : any_index) → has (listed f) j ≡ is_same_index j index.now || has (map K.as_index set.now.keys) j) }
+    ensures kept { IfOk result IsKept }
+    ensures ascending { IfOk result (λ f. IsStrictlySortedBy index_cmp (listed f)) }
+{
+    Ok(MemberForm::Mixed(more_in(alloc, set, index)?))
+}
+
+// Short texts and an index that is none: as texts, if it is a text.
+fn short_with(
+    alloc: Global,
+    set: &BTreeSet<ShortLabel>,
+    index: &AnyIndex,
+) -> Result<MemberForm, NoMemory>
+    ensures added { IfOk result (λ f. (j : any_index) → has (listed f) j ≡ is_same_index j index.now || has (map text_index set.now.keys) j) }
+    ensures kept { IfOk result IsKept }
+    ensures ascending { IfOk result (λ f. IsStrictlySortedBy index_cmp (listed f)) }
+{
+    if has_form::<Label>(index) {
+        return Ok(MemberForm::Text(more_in(alloc, set, index)?));
+    }
+    mixed_with(alloc, set, index)
+}
+
+// Indices, with one that is not of their form: by a form that they all have.
+fn form_with(alloc: Global, form: &MemberForm, index: &AnyIndex) -> Result<MemberForm, NoMemory>
     ensures added { IfOk result (λ f. (j : any_index) → has (listed f) j ≡ is_same_index j index.now || has (listed form.now) j) }
     ensures kept { IfOk result IsKept }
     ensures ascending { IfOk result (λ f. IsStrictlySortedBy index_cmp (listed f)) }
 {
-    let mut mixed = mixed_of(alloc, form)?;
-    put_in(&mut mixed, index)?;
-    Ok(MemberForm::Mixed(mixed))
+    match form {
+        MemberForm::Line(set) => mixed_with(alloc, set, index),
+        MemberForm::Plane(set) => mixed_with(alloc, set, index),
+        MemberForm::Solid(set) => mixed_with(alloc, set, index),
+        MemberForm::Short(set) => short_with(alloc, set, index),
+        MemberForm::Text(set) => mixed_with(alloc, set, index),
+        MemberForm::Mixed(set) => mixed_with(alloc, set, index),
+    }
 }
 
 impl MemberSet {
@@ -277,6 +329,7 @@ impl MemberSet {
             MemberForm::Line(set) => has_in(set, index),
             MemberForm::Plane(set) => has_in(set, index),
             MemberForm::Solid(set) => has_in(set, index),
+            MemberForm::Short(set) => has_in(set, index),
             MemberForm::Text(set) => has_in(set, index),
             MemberForm::Mixed(set) => has_in(set, index),
         }
@@ -294,7 +347,7 @@ impl MemberSet {
         if fits(&self.form, index) {
             return put_form(&mut self.form, index);
         }
-        self.form = mixed_with(alloc, &self.form, index)?;
+        self.form = form_with(alloc, &self.form, index)?;
         Ok(())
     }
 
@@ -315,6 +368,7 @@ impl MemberSet {
             MemberForm::Line(set) => count_in(set),
             MemberForm::Plane(set) => count_in(set),
             MemberForm::Solid(set) => count_in(set),
+            MemberForm::Short(set) => count_in(set),
             MemberForm::Text(set) => count_in(set),
             MemberForm::Mixed(set) => count_in(set),
         }
@@ -328,6 +382,7 @@ impl MemberSet {
             MemberForm::Line(set) => nth_in(set, p),
             MemberForm::Plane(set) => nth_in(set, p),
             MemberForm::Solid(set) => nth_in(set, p),
+            MemberForm::Short(set) => nth_in(set, p),
             MemberForm::Text(set) => nth_in(set, p),
             MemberForm::Mixed(set) => nth_in(set, p),
         }
@@ -341,6 +396,7 @@ impl MemberSet {
             MemberForm::Line(set) => list_in(alloc, set),
             MemberForm::Plane(set) => list_in(alloc, set),
             MemberForm::Solid(set) => list_in(alloc, set),
+            MemberForm::Short(set) => list_in(alloc, set),
             MemberForm::Text(set) => list_in(alloc, set),
             MemberForm::Mixed(set) => list_in(alloc, set),
         }

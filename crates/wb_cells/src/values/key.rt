@@ -2,14 +2,14 @@
 
 ghost use Rattle.std.specs.Prelude.{◌≡◌, Bool, true, false, IfSome, None, refl};
 ghost use Rattle.wb_cells.specs.Cells.{index_cmp, index_cmp-IsAntisymmetric};
-ghost use Rattle.wb_cells.specs.Kinds.{is_point, is_text};
+ghost use Rattle.wb_cells.specs.Kinds.{is_point, is_short_text, is_text};
 ghost use Rattle.wb_cells.specs.declared.values.index.Index.{Index as any_index};
 ghost use Rattle.wb_cells.specs.declared.values.index.Index.TheVariants.{Point as point_index, Text as text_index};
 
 use crate::values::index::{AnyIndex, Index, coordinates_of};
 use crate::values::point::Point;
 use wb_range::Key;
-use wb_sets::Label;
+use wb_sets::{Label, ShortLabel};
 
 /// Two indices that compare equal are one.
 impl Key for AnyIndex {
@@ -98,6 +98,25 @@ impl AsIndex for Label {
     fn of(index: &AnyIndex) -> Option<Label> {
         match index.index() {
             Index::Text(label) => Some(label),
+            Index::Point(_) => None,
+        }
+    }
+}
+
+impl AsIndex for ShortLabel {
+    ghost as_index = { λ k. text_index k };
+
+    ghost is_of = { is_short_text };
+
+    ghost alike = { λ x y. refl };
+
+    fn any(self) -> AnyIndex {
+        AnyIndex::new(Index::Text(self.label()))
+    }
+
+    fn of(index: &AnyIndex) -> Option<ShortLabel> {
+        match index.index() {
+            Index::Text(label) => ShortLabel::of(&label),
             Index::Point(_) => None,
         }
     }
