@@ -81,4 +81,4 @@ abbrev pub line_of : ObjectLine → Line
 line_of (lines.Rectangular d rs m) = rectangular d rs m
 line_of (lines.Sparse d parent is) = sparse d parent is.items
 line_of (lines.Associative d type is) = associative d type is.items
-line_of (lines.Array a d xs irv) = array a d xs.items irv
+line_of (lines.Array a d xs irv) = array a d xs irv

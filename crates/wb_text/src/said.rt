@@ -1,5 +1,6 @@
 //! What a line of the text of a workbook says.
 
+use crate::number_list::NumberList;
 use wb_cells::{AnyIndex, AnyLayout, AnyRect, KeyType, Name};
 
 /// What the line of an object says.
@@ -12,5 +13,5 @@ pub enum ObjectLine {
     /// An associative domain: the type of its indices, and its indices, ascending.
     Associative(Name, KeyType, Vec<AnyIndex>),
     /// An array: its domain, its elements in the domain's order, and its implicit value if its domain is sparse.
-    Array(Name, Name, Vec<i64>, Option<i64>),
+    Array(Name, Name, NumberList, Option<i64>),
 }

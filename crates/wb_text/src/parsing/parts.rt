@@ -3,6 +3,7 @@ ghost use Rattle.std.specs.Prelude.{◌≡◌, ℕ, ◌≤◌, ◌<◌, length, 
 ghost use Rattle.wb_text.specs.Parsed.Parts.{is_space, name_of, name_up_to, name_at, names_at, type_at, typed_at, ranges_at, layout_at, members_at};
 ghost use Rattle.wb_text.specs.Parsed.Parts.{elements_at, last_integer_at, implicit_at};
 
+use crate::number_list::NumberList;
 use std::alloc::{AllocError, Global};
 use wb_cells::{AnyIndex, AnyLayout, AnyRect, KeyType, Name};
 use wb_literals::limits::{domain_within, listed_in, mapping_within};
@@ -129,11 +130,15 @@ pub(crate) fn members_at(
 pub(crate) fn elements_at(
     alloc: Global,
     bytes: &[u8],
-) -> Result<Option<(Vec<i64>, &[u8])>, AllocError>
-    ensures { IfOk result (λ r. option_map (λ x. (x.0.items, x.1.now)) r ≡ elements_at bytes.now) }
+) -> Result<Option<(NumberList, &[u8])>, AllocError>
+    ensures { IfOk result (λ r. option_map (λ x. (x.0, x.1.now)) r ≡ elements_at bytes.now) }
 {
-    match after(b" ", bytes) {
-        Some(literal) => integers_at(alloc, literal),
+    let literal = match after(b" ", bytes) {
+        Some(literal) => literal,
+        None => return Ok(None),
+    };
+    match integers_at(alloc, literal)? {
+        Some((numbers, rest)) => Ok(Some((NumberList::of(alloc, numbers)?, rest))),
         None => Ok(None),
     }
 }

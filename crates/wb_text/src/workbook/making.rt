@@ -3,7 +3,7 @@ ghost use Rattle.wb_text.specs.Said.{line_of};
 ghost use Rattle.wb_text.specs.FromLines.Made.{IsMade};
 
 use crate::ObjectLine;
-use wb_cells::{indices_validity, numbers_validity};
+use wb_cells::indices_validity;
 
 /// Computes nothing. Callers learn what a line is made of.
 pub fn line_validity(line: &ObjectLine)
@@ -29,7 +29,8 @@ pub fn line_validity(line: &ObjectLine)
         ObjectLine::Array(array, _, elements, implicit) => {
             // For the proof: the bytes are those of a name.
             let _name = array.as_bytes();
-            numbers_validity(elements);
+            // For the proof: the numbers are of 64 bits.
+            let _count = elements.len();
             if let Some(value) = implicit {
                 // For the proof: the number is one of 64 bits.
                 let _value = *value;

@@ -12,6 +12,7 @@ ghost use Rattle.wb_text.specs.FromLines.Told.{ranges_told, rank_told, kind_told
 ghost use Rattle.wb_text.specs.FromLines.Told.{rectangular_stored, sparse_cells, associative_cells, array_stored, stored_told};
 
 use crate::ObjectLine;
+use crate::number_list::NumberList;
 use crate::workbook::finding::find;
 use crate::workbook::putting::{points_of, put, put_presents};
 use std::alloc::{AllocError, Global};
@@ -222,7 +223,7 @@ fn put_array(
     domain: Name,
     kind: Kind,
     count: usize,
-    elements: &[i64],
+    elements: &NumberList,
     implicit: Option<i64>,
 ) -> Result<bool, NoMemory>
     ensures sound { IfOk result (λ b. b ≡ (count == length elements.now)) }
