@@ -1,3 +1,4 @@
+pub mod Numbers
 pub mod Literals
 pub mod Lines
 pub mod Said

@@ -14,6 +14,8 @@ use Rattle.wb_cells.specs.Cells.{Name, Cells, is_same_name}
 use Rattle.wb_cells.specs.Locales.{mapping_in}
 use Rattle.wb_cells.specs.Readers.{objects}
 use Rattle.wb_cells.specs.WellFormed.{ranges_in}
+use Rattle.wb_literals.specs.Said.{items}
+use Rattle.wb_literals.specs.Limits.Literals.{listed_in}
 use Rattle.wb_text.specs.Lines.{members, indices_in, elements_at, implicit_in, rectangular_line, sparse_line, associative_line, array_line}
 use Rattle.wb_text.specs.declared.said.ObjectLine.{ObjectLine}
 use Rattle.wb_text.specs.declared.said.ObjectLine.TheVariants as lines
@@ -79,6 +81,6 @@ said s = filter_map (said_of s) (objects s)
 
 abbrev pub line_of : ObjectLine → Line
 line_of (lines.Rectangular d rs m) = rectangular d rs m
-line_of (lines.Sparse d parent is) = sparse d parent is.items
-line_of (lines.Associative d type is) = associative d type is.items
-line_of (lines.Array a d xs irv) = array a d xs.items irv
+line_of (lines.Sparse d parent set) = sparse d parent (listed_in (items set))
+line_of (lines.Associative d type set) = associative d type (listed_in (items set))
+line_of (lines.Array a d xs irv) = array a d xs irv

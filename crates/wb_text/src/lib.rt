@@ -11,6 +11,7 @@ pub mod lines;
 mod lists;
 mod literals;
 mod mappings;
+mod number_list;
 mod parsing;
 mod said;
 pub mod value;
@@ -18,6 +19,7 @@ mod workbook;
 
 pub use crate::literals::push_set;
 pub use crate::mappings::{push_any_layout, push_any_rect};
+pub use crate::number_list::NumberList;
 pub use crate::parsing::read_lines;
 pub use crate::said::ObjectLine;
 pub use crate::value::BookText;

@@ -1,6 +1,8 @@
 //! What a line of the text of a workbook says.
 
-use wb_cells::{AnyIndex, AnyLayout, AnyRect, KeyType, Name};
+use crate::number_list::NumberList;
+use wb_cells::{AnyLayout, AnyRect, KeyType, Name};
+use wb_literals::SetLiteral;
 
 /// What the line of an object says.
 #[derive(Drop)]
@@ -8,9 +10,9 @@ pub enum ObjectLine {
     /// A rectangular domain: its ranges and its mapping.
     Rectangular(Name, AnyRect, AnyLayout),
     /// A sparse domain: its parent and its indices, ascending.
-    Sparse(Name, Name, Vec<AnyIndex>),
+    Sparse(Name, Name, SetLiteral),
     /// An associative domain: the type of its indices, and its indices, ascending.
-    Associative(Name, KeyType, Vec<AnyIndex>),
+    Associative(Name, KeyType, SetLiteral),
     /// An array: its domain, its elements in the domain's order, and its implicit value if its domain is sparse.
-    Array(Name, Name, Vec<i64>, Option<i64>),
+    Array(Name, Name, NumberList, Option<i64>),
 }

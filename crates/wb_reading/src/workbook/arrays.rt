@@ -35,7 +35,7 @@ fn put_array(
         ObjectLine::Sparse(_, _, _) => Ok(()),
         ObjectLine::Associative(_, _, _) => Ok(()),
         ObjectLine::Array(array, domain, elements, _) => {
-            let Ok(made) = column(alloc, lines, places, domain, elements.as_slice()) else {
+            let Ok(made) = column(alloc, lines, places, domain, elements) else {
                 return Err(NoMemory);
             };
             match arrays.insert(*array, made) {

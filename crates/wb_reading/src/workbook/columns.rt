@@ -20,7 +20,7 @@ use std::collections::BTreeMap;
 use wb_book::Elements;
 use wb_cells::{AnyIndex, AnyLayout, AnyRect, KeyType, Name, RectangleNumbers, Row};
 use wb_range::NoMemory;
-use wb_text::{ObjectLine, find, indices_of};
+use wb_text::{NumberList, ObjectLine, find, indices_of};
 
 // The mapping of a rectangular domain, and its rank.
 fn rectangle_lies(
@@ -78,14 +78,14 @@ fn numbered(
     array: &Name,
     ranges: &AnyRect,
     mapping: &AnyLayout,
-    numbers: &[i64],
+    numbers: &NumberList,
 ) -> Result<Option<Elements>, NoMemory>
     ensures elements { IfOk result (λ o. IfSome o (λ e. (i : any_index) →
         lookup (is_at (index_cmp i)) e.0 ≡ last_of index_cmp (zip (indices ranges.now) numbers.now) i)) }
     ensures lies { IfOk result (λ o. IfSome o (λ e. e.1 ≡ (mapping.now, length ranges.now))) }
 {
-    let copied = Vec::from_slice(alloc, numbers)?;
-    let block = RectangleNumbers::new(Row::Elements(*array), *ranges, copied);
+    let listed = numbers.list(alloc)?;
+    let block = RectangleNumbers::new(Row::Elements(*array), *ranges, listed);
     match Elements::of_block(alloc, &block, mapping, ranges.rank()) {
         Ok(Some(made)) => {
             // For the proof: the elements ascend.
@@ -104,7 +104,7 @@ fn rectangle_column(
     lines: &[ObjectLine],
     places: &BTreeMap<Name, usize>,
     domain: &Name,
-    numbers: &[i64],
+    numbers: &NumberList,
 ) -> Result<Option<Elements>, NoMemory>
     requires { Finds places.now (map line_of lines.now) (map line_of lines.now) }
     ensures { IfOk result (λ o. IfSome o (λ e. IsColumn (map line_of lines.now) domain.now numbers.now e)) }
@@ -126,7 +126,7 @@ fn listed_column(
     lines: &[ObjectLine],
     places: &BTreeMap<Name, usize>,
     domain: &Name,
-    numbers: &[i64],
+    numbers: &NumberList,
 ) -> Result<Elements, NoMemory>
     requires finds { Finds places.now (map line_of lines.now) (map line_of lines.now) }
     requires sound { list_all (is_sound (map line_of lines.now)) (map line_of lines.now) ≡ true }
@@ -136,7 +136,8 @@ fn listed_column(
     let Ok(indices) = indices_of(alloc, lines, places, domain) else {
         return Err(NoMemory);
     };
-    let changes = changes_of(alloc, &indices, numbers)?;
+    let listed = numbers.list(alloc)?;
+    let changes = changes_of(alloc, &indices, &listed)?;
     let (layout, rank) = lies(lines, places, domain);
     let none: Vec<(AnyIndex, i64)> = Vec::new(alloc);
     Elements::made(alloc, none.as_slice(), changes.as_slice(), &layout, rank)
@@ -149,7 +150,7 @@ pub(crate) fn column(
     lines: &[ObjectLine],
     places: &BTreeMap<Name, usize>,
     domain: &Name,
-    numbers: &[i64],
+    numbers: &NumberList,
 ) -> Result<Elements, NoMemory>
     requires finds { Finds places.now (map line_of lines.now) (map line_of lines.now) }
     requires sound { list_all (is_sound (map line_of lines.now)) (map line_of lines.now) ≡ true }

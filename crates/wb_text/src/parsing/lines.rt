@@ -36,7 +36,7 @@ fn sparse_at(alloc: Global, bytes: &[u8]) -> Result<Option<(ObjectLine, &[u8])>,
         None => return Ok(None),
     };
     match members_at(alloc, rest)? {
-        Some((indices, rest)) => Ok(Some((ObjectLine::Sparse(name, parent, indices), rest))),
+        Some((set, rest)) => Ok(Some((ObjectLine::Sparse(name, parent, set), rest))),
         None => Ok(None),
     }
 }
@@ -50,7 +50,7 @@ fn associative_at(alloc: Global, bytes: &[u8]) -> Result<Option<(ObjectLine, &[u
         None => return Ok(None),
     };
     match members_at(alloc, rest)? {
-        Some((indices, rest)) => Ok(Some((ObjectLine::Associative(name, key, indices), rest))),
+        Some((set, rest)) => Ok(Some((ObjectLine::Associative(name, key, set), rest))),
         None => Ok(None),
     }
 }

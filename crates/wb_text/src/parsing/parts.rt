@@ -1,12 +1,15 @@
 //! The parts of a line at the front of a text.
 ghost use Rattle.std.specs.Prelude.{◌≡◌, ℕ, ◌≤◌, ◌<◌, length, position, take, drop, Some, None, IfOk, IfSome, codes, option_map, option_and_then};
 ghost use Rattle.wb_text.specs.Parsed.Parts.{is_space, name_of, name_up_to, name_at, names_at, type_at, typed_at, ranges_at, layout_at, members_at};
+ghost use Rattle.wb_literals.specs.Said.{items};
+ghost use Rattle.wb_literals.specs.Limits.Literals.{listed_in};
 ghost use Rattle.wb_text.specs.Parsed.Parts.{elements_at, last_integer_at, implicit_at};
 
+use crate::number_list::NumberList;
 use std::alloc::{AllocError, Global};
-use wb_cells::{AnyIndex, AnyLayout, AnyRect, KeyType, Name};
-use wb_literals::limits::{domain_within, listed_in, mapping_within};
-use wb_literals::{after, integer_at, integers_at, mapping_at, rectangle_at, set_at};
+use wb_cells::{AnyLayout, AnyRect, KeyType, Name};
+use wb_literals::limits::{domain_within, mapping_within};
+use wb_literals::{SetLiteral, after, integer_at, integers_at, mapping_at, rectangle_at, set_at};
 
 // The place of the first space.
 fn space_in(bytes: &[u8]) -> Option<usize>
@@ -104,12 +107,12 @@ pub(crate) fn layout_at(bytes: &[u8]) -> Option<(AnyLayout, &[u8])>
     Some((layout, rest))
 }
 
-/// The indices of a set, and the end of the line.
+/// A set of indices, and the end of the line.
 pub(crate) fn members_at(
     alloc: Global,
     bytes: &[u8],
-) -> Result<Option<(Vec<AnyIndex>, &[u8])>, AllocError>
-    ensures { IfOk result (λ r. option_map (λ x. (x.0.items, x.1.now)) r ≡ members_at bytes.now) }
+) -> Result<Option<(SetLiteral, &[u8])>, AllocError>
+    ensures { IfOk result (λ r. option_map (λ x. (listed_in (items x.0), x.1.now)) r ≡ members_at bytes.now) }
 {
     let literal = match after(b" ", bytes) {
         Some(literal) => literal,
@@ -120,7 +123,7 @@ pub(crate) fn members_at(
         None => return Ok(None),
     };
     match after(b"\n", rest) {
-        Some(rest) => Ok(Some((listed_in(alloc, &set)?, rest))),
+        Some(rest) => Ok(Some((set, rest))),
         None => Ok(None),
     }
 }
@@ -129,11 +132,15 @@ pub(crate) fn members_at(
 pub(crate) fn elements_at(
     alloc: Global,
     bytes: &[u8],
-) -> Result<Option<(Vec<i64>, &[u8])>, AllocError>
-    ensures { IfOk result (λ r. option_map (λ x. (x.0.items, x.1.now)) r ≡ elements_at bytes.now) }
+) -> Result<Option<(NumberList, &[u8])>, AllocError>
+    ensures { IfOk result (λ r. option_map (λ x. (x.0, x.1.now)) r ≡ elements_at bytes.now) }
 {
-    match after(b" ", bytes) {
-        Some(literal) => integers_at(alloc, literal),
+    let literal = match after(b" ", bytes) {
+        Some(literal) => literal,
+        None => return Ok(None),
+    };
+    match integers_at(alloc, literal)? {
+        Some((numbers, rest)) => Ok(Some((NumberList::of(alloc, numbers)?, rest))),
         None => Ok(None),
     }
 }

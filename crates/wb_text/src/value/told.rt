@@ -40,7 +40,10 @@ fn put_derived(
             let Ok(indices) = indices_of(alloc, lines, places, domain) else {
                 return Err(NoMemory);
             };
-            put_numbers(cells, *array, &indices, elements)
+            let Ok(numbers) = elements.list(alloc) else {
+                return Err(NoMemory);
+            };
+            put_numbers(cells, *array, &indices, &numbers)
         }
     }
 }

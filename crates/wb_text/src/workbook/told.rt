@@ -5,6 +5,8 @@ ghost use Rattle.wb_cells.specs.Cells.{state_of};
 ghost use Rattle.wb_cells.specs.Kinds.{is_key};
 ghost use Rattle.wb_cells.specs.Layouts.{is_of_rank};
 ghost use Rattle.wb_cells.specs.declared.cells.kind.Kind.TheVariants.{Associative as over_associative};
+ghost use Rattle.wb_literals.specs.Said.{items};
+ghost use Rattle.wb_literals.specs.Limits.Literals.{listed_in};
 ghost use Rattle.wb_text.specs.Said.{first_line_of, line_of};
 ghost use Rattle.wb_text.specs.FromLines.Found.{Finds};
 ghost use Rattle.wb_text.specs.FromLines.Inserted.{inserted};
@@ -12,14 +14,17 @@ ghost use Rattle.wb_text.specs.FromLines.Told.{ranges_told, rank_told, kind_told
 ghost use Rattle.wb_text.specs.FromLines.Told.{rectangular_stored, sparse_cells, associative_cells, array_stored, stored_told};
 
 use crate::ObjectLine;
+use crate::number_list::NumberList;
 use crate::workbook::finding::find;
-use crate::workbook::putting::{points_of, put, put_presents};
+use crate::workbook::putting::{index_at, points_of, put, put_members};
 use std::alloc::{AllocError, Global};
 use std::collections::BTreeMap;
 use wb_cells::{
     AnyDomain, AnyIndex, AnyLayout, AnyRect, Binding, Cell, DomainKind, KeyType, Kind, Name,
     StoredCells, Value,
 };
+use wb_literals::SetLiteral;
+use wb_literals::limits::listed_in;
 use wb_range::NoMemory;
 
 // ---- what a line tells of a domain to those that are bound to it
@@ -48,12 +53,6 @@ fn rank_of(lines: &[ObjectLine], places: &BTreeMap<Name, usize>, name: &Name) ->
     }
 }
 
-fn copied(alloc: Global, indices: &[AnyIndex]) -> Result<Vec<AnyIndex>, AllocError>
-    ensures { IfOk result (λ v. v.items ≡ indices.now) }
-{
-    indices.iter().copied().collect(alloc)
-}
-
 // The kind of the domain of a name.
 fn kind_of(lines: &[ObjectLine], places: &BTreeMap<Name, usize>, name: &Name) -> Option<Kind>
     requires { Finds places.now (map line_of lines.now) (map line_of lines.now) }
@@ -75,8 +74,8 @@ fn count_of(lines: &[ObjectLine], places: &BTreeMap<Name, usize>, name: &Name) -
 {
     match find(lines, places, name) {
         Some(ObjectLine::Rectangular(_, ranges, _)) => ranges.size(),
-        Some(ObjectLine::Sparse(_, _, indices)) => indices.len(),
-        Some(ObjectLine::Associative(_, _, indices)) => indices.len(),
+        Some(ObjectLine::Sparse(_, _, set)) => set.len(),
+        Some(ObjectLine::Associative(_, _, set)) => set.len(),
         Some(ObjectLine::Array(_, _, _, _)) => 0,
         None => 0,
     }
@@ -94,8 +93,8 @@ pub fn indices_of(
 {
     match find(lines, places, name) {
         Some(ObjectLine::Rectangular(_, ranges, _)) => points_of(alloc, ranges),
-        Some(ObjectLine::Sparse(_, _, indices)) => copied(alloc, indices),
-        Some(ObjectLine::Associative(_, _, indices)) => copied(alloc, indices),
+        Some(ObjectLine::Sparse(_, _, set)) => listed_in(alloc, set),
+        Some(ObjectLine::Associative(_, _, set)) => listed_in(alloc, set),
         Some(ObjectLine::Array(_, _, _, _)) => Ok(Vec::new(alloc)),
         None => Ok(Vec::new(alloc)),
     }
@@ -103,24 +102,26 @@ pub fn indices_of(
 
 // ---- tests of indices
 
-// Whether each index is in the rectangle.
-fn are_within(ranges: &AnyRect, indices: &[AnyIndex]) -> bool
-    ensures { result ≡ are_within (Some ranges.now) indices.now }
+// Whether each index of the set is in the rectangle.
+fn are_within(ranges: &AnyRect, set: &SetLiteral) -> bool
+    ensures { result ≡ are_within (Some ranges.now) (listed_in (items set.now)) }
 {
-    for index in indices {
-        if !ranges.contains(index) {
+    for place in 0..set.len() {
+        let index = index_at(set, place);
+        if !ranges.contains(&index) {
             return false;
         }
     }
     true
 }
 
-// Whether each index is of the type.
-fn are_keys(key: KeyType, indices: &[AnyIndex]) -> bool
-    ensures { result ≡ list_all (is_key (over_associative key)) indices.now }
+// Whether each index of the set is of the type.
+fn are_keys(key: KeyType, set: &SetLiteral) -> bool
+    ensures { result ≡ list_all (is_key (over_associative key)) (listed_in (items set.now)) }
 {
     let kind = Kind::Associative(key);
-    for index in indices {
+    for place in 0..set.len() {
+        let index = index_at(set, place);
         if !kind.is_key(&index.index()) {
             return false;
         }
@@ -159,16 +160,16 @@ fn put_sparse(
     domain: Name,
     parent: Name,
     ranges: Option<AnyRect>,
-    indices: &[AnyIndex],
+    set: &SetLiteral,
 ) -> Result<bool, NoMemory>
-    ensures sound { IfOk result (λ b. b ≡ are_within ranges indices.now) }
+    ensures sound { IfOk result (λ b. b ≡ are_within ranges (listed_in (items set.now))) }
     ensures cells { IfOk result (λ b. b ≡ true →
-        state_of cells.new ≡ inserted (sparse_cells domain parent (length (unwrap_or ranges [])) indices.now) (state_of cells.old)) }
+        state_of cells.new ≡ inserted (sparse_cells domain parent (length (unwrap_or ranges [])) (listed_in (items set.now))) (state_of cells.old)) }
 {
     let Some(ranges) = ranges else {
         return Ok(false);
     };
-    if !are_within(&ranges, indices) {
+    if !are_within(&ranges, set) {
         return Ok(false);
     }
     let rank = ranges.rank();
@@ -179,7 +180,7 @@ fn put_sparse(
         Cell::Use(parent, domain),
         Value::Bound(Binding::Sparse),
     )?;
-    put_presents(cells, Kind::Sparse(rank), domain, indices)?;
+    put_members(cells, Kind::Sparse(rank), domain, set)?;
     Ok(true)
 }
 
@@ -188,18 +189,18 @@ fn put_associative(
     cells: &mut StoredCells,
     domain: Name,
     key: KeyType,
-    indices: &[AnyIndex],
+    set: &SetLiteral,
 ) -> Result<bool, NoMemory>
-    ensures sound { IfOk result (λ b. b ≡ list_all (is_key (over_associative key)) indices.now) }
+    ensures sound { IfOk result (λ b. b ≡ list_all (is_key (over_associative key)) (listed_in (items set.now))) }
     ensures cells { IfOk result (λ b. b ≡ true →
-        state_of cells.new ≡ inserted (associative_cells domain key indices.now) (state_of cells.old)) }
+        state_of cells.new ≡ inserted (associative_cells domain key (listed_in (items set.now))) (state_of cells.old)) }
 {
-    if !are_keys(key, indices) {
+    if !are_keys(key, set) {
         return Ok(false);
     }
     let kind = AnyDomain::new(DomainKind::Associative(key));
     put(cells, Cell::Object(domain), Value::Domain(kind))?;
-    put_presents(cells, Kind::Associative(key), domain, indices)?;
+    put_members(cells, Kind::Associative(key), domain, set)?;
     Ok(true)
 }
 
@@ -222,7 +223,7 @@ fn put_array(
     domain: Name,
     kind: Kind,
     count: usize,
-    elements: &[i64],
+    elements: &NumberList,
     implicit: Option<i64>,
 ) -> Result<bool, NoMemory>
     ensures sound { IfOk result (λ b. b ≡ (count == length elements.now)) }
@@ -259,13 +260,11 @@ pub fn put_stored(
         ObjectLine::Rectangular(domain, ranges, mapping) => {
             put_rectangular(cells, *domain, ranges, mapping)
         }
-        ObjectLine::Sparse(domain, parent, indices) => {
+        ObjectLine::Sparse(domain, parent, set) => {
             let ranges = ranges_of(lines, places, parent);
-            put_sparse(cells, *domain, *parent, ranges, indices)
+            put_sparse(cells, *domain, *parent, ranges, set)
         }
-        ObjectLine::Associative(domain, key, indices) => {
-            put_associative(cells, *domain, *key, indices)
-        }
+        ObjectLine::Associative(domain, key, set) => put_associative(cells, *domain, *key, set),
         ObjectLine::Array(array, domain, elements, implicit) => {
             let Some(kind) = kind_of(lines, places, domain) else {
                 return Ok(false);

@@ -28,8 +28,8 @@ returns-in-Ok-insert c = λ more new told.
     let ls = map line_of c.args.lines.now in
     let a = c.in-Array.array in
     let d = c.in-Array.domain in
-    let xs = c.in-Array.elements.items in
+    let xs = c.in-Array.elements in
     let p = c.in-Ok.made in
-    let column : IsColumn ls d xs p = subst (λ ys. IsColumn ls d ys p) c.as_slice.ensures.value c.in-Ok.ensures in
+    let column : IsColumn ls d xs p = c.in-Ok.ensures in
     subst (λ (x : ObjectLine). AreArraysTold ls (line_of x ∷ more) c.insert.new.self.entries) (sym c.in-Array.is)
     (array_line ls more a d xs c.in-Array.field-3 c.args.arrays.now.entries c.insert.new.self.entries p column (λ b. c.in-Ok-insert.ensures.updates.0 b) told)

@@ -35,7 +35,9 @@ made-requires-clause-formed c = λ i there.
     let numbers = c.args.numbers.now in
     let is = indices_told (first_line_of d ls) in
     let none = c.as_slice.ensures.value ∙ c.new-none.ensures.items in
-    let set = c.as_slice-2.ensures.value ∙ c.in_ok-changes.ensures ∙ ap (λ ks. all_set (zip ks numbers)) (c.deref.ensures.value ∙ c.in-Ok.ensures) in
+    let listed = c.deref-2.ensures.value ∙ c.in_ok-listed.ensures in
+    let set = c.as_slice-2.ensures.value ∙ c.in_ok-changes.ensures ∙ ap (λ ks. all_set (zip ks c.deref-2.result.now)) (c.deref.ensures.value ∙ c.in-Ok.ensures)
+    ∙ ap (λ (xs : List ℤ). all_set (zip is xs)) listed in
     let same = ap (λ xs. changed_at xs (value_at index_cmp c.as_slice.result.now i) i) set
     ∙ ap (λ (es : List (Index × ℤ)). changed_at (all_set (zip is numbers)) (value_at index_cmp es i) i) none in
     let here : IsSome (changed_at (all_set (zip is numbers)) None i) = subst (λ (o : Option ℤ). IsSome o) same there in
@@ -47,7 +49,9 @@ returns c =
     let numbers = c.args.numbers.now in
     let is = indices_told (first_line_of c.args.domain.now (map line_of c.args.lines.now)) in
     let none = c.as_slice.ensures.value ∙ c.new-none.ensures.items in
-    let set = c.as_slice-2.ensures.value ∙ c.in_ok-changes.ensures ∙ ap (λ ks. all_set (zip ks numbers)) (c.deref.ensures.value ∙ c.in-Ok.ensures) in
+    let listed = c.deref-2.ensures.value ∙ c.in_ok-listed.ensures in
+    let set = c.as_slice-2.ensures.value ∙ c.in_ok-changes.ensures ∙ ap (λ ks. all_set (zip ks c.deref-2.result.now)) (c.deref.ensures.value ∙ c.in-Ok.ensures)
+    ∙ ap (λ (xs : List ℤ). all_set (zip is xs)) listed in
     both_ok c.made.result _ _ _ c.made.ensures.elements c.made.ensures.lies (λ e elements lies. record {
       elements = λ i.
           elements i

@@ -12,5 +12,5 @@ returns-in-Ok-Some-clause-elements c =
     let set : all_set es ≡ as_changes Point (numbered_entries c.new-block.result.ranges c.new-block.result.numbers.items) =
     rw c.in-Ok-Some.field-0-is at c.in-Ok-Some.ensures.elements in
     let are : all_set es ≡ as_changes Point (numbered_entries c.args.ranges.now c.args.numbers.now) =
-    cc (set, c.new-block.ensures.ranges, c.new-block.ensures.numbers, c.in_ok-copied.ensures.items) in
+    cc (set, c.new-block.ensures.ranges, c.new-block.ensures.numbers, c.in_ok-listed.ensures) in
     λ i. stands es c.args.ranges.now c.args.numbers.now c.len-ascending.ensures.ascending are i
