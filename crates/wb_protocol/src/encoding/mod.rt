@@ -5,11 +5,13 @@
 
 mod edits;
 mod literals;
+mod loads;
 mod objects;
 mod printed;
 mod sources;
 
 pub use crate::encoding::edits::{edit_text, edit_value, line_of};
 pub use crate::encoding::literals::index_value;
+pub use crate::encoding::loads::load_line;
 pub use crate::encoding::objects::{index_of_domain, of_domain};
 pub use crate::encoding::printed::{objects_in, print_edits_from, print_history, push_edit};

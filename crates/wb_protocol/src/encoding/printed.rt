@@ -37,7 +37,8 @@ fn push_objects(alloc: Global, out: &mut String, book: &Book) -> Result<(), NoMe
     }
 }
 
-fn mark(in_force: bool) -> &'static str
+/// The mark of an edit in force, or of one that is not.
+pub(crate) fn mark(in_force: bool) -> &'static str
     ensures { result.now ≡ mark in_force }
 {
     if in_force { "+ " } else { "- " }
