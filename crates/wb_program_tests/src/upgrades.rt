@@ -17,6 +17,13 @@ const WORKBOOK: &[u8] =
 const HISTORY: &[u8] =
     b"chapel-workbook 2\narray A over D [0, 0, 0, 9]\nrect D {1..4} none\nhistory 1\n+ {\"op\":\"load\",\"text\":\"chapel-workbook 1\\narray A over D [0, 0, 0, 9]\\nrect D {1..4} none\\nend\\n\"}\nend\n";
 
+// An object of each kind.
+const EVERY_KIND: &[u8] =
+    b"chapel-workbook 1\narray A over D [0, 0, 0, -9]\narray B over S [7, 300] irv -70000\narray C over T [1, 9223372036854775807]\nrect D {1..4} cyclicDist(1, [2])\narray E over N []\nassoc N of int {}\nrect P {1..3, 2..8 by -3} none\nsparse Q of P {(1, 2), (3, 8)}\nsparse S of D {2, 4}\nassoc T of text {\"a, }\", \"\xc3\xa9\"}\nend\n";
+
+const HISTORY_OF_EVERY_KIND: &[u8] =
+    b"chapel-workbook 2\narray A over D [0, 0, 0, -9]\narray B over S [7, 300] irv -70000\narray C over T [1, 9223372036854775807]\nrect D {1..4} cyclicDist(1, [2])\narray E over N []\nassoc N of int {}\nrect P {1..3, 2..8 by -3} none\nsparse Q of P {(1, 2), (3, 8)}\nsparse S of D {2, 4}\nassoc T of text {\"a, }\", \"\xc3\xa9\"}\nhistory 1\n+ {\"op\":\"load\",\"text\":\"chapel-workbook 1\\narray A over D [0, 0, 0, -9]\\narray B over S [7, 300] irv -70000\\narray C over T [1, 9223372036854775807]\\nrect D {1..4} cyclicDist(1, [2])\\narray E over N []\\nassoc N of int {}\\nrect P {1..3, 2..8 by -3} none\\nsparse Q of P {(1, 2), (3, 8)}\\nsparse S of D {2, 4}\\nassoc T of text {\\\"a, }\\\", \\\"\xc3\xa9\\\"}\\nend\\n\"}\nend\n";
+
 const MORE: &[u8] =
     b"{\"op\":\"get\",\"a\":\"A\",\"i\":4}\n{\"op\":\"undo\"}\n{\"op\":\"size\",\"d\":\"D\"}\n{\"op\":\"redo\",\"k\":1}\n{\"op\":\"get\",\"a\":\"A\",\"i\":4}\n";
 
@@ -28,8 +35,9 @@ const HAS_TWO: &[u8] = b"ok 2 1\n";
 const REFUSED: &[u8] = b"refused\n";
 
 // Texts, the exit status after each, and what is printed.
-const ROWS: [(&[u8], u8, &[u8]); 8] = [
+const ROWS: [(&[u8], u8, &[u8]); 12] = [
     (WORKBOOK, 0, HISTORY),
+    (EVERY_KIND, 0, HISTORY_OF_EVERY_KIND),
     (
         b"chapel-workbook 1\nend\n",
         0,
@@ -40,11 +48,22 @@ const ROWS: [(&[u8], u8, &[u8]); 8] = [
         0,
         b"chapel-workbook 2\nassoc T of text {\"a\"}\nhistory 1\n+ {\"op\":\"load\",\"text\":\"chapel-workbook 1\\nassoc T of text {\\\"a\\\"}\\nend\\n\"}\nend\n",
     ),
+    (
+        b"chapel-workbook 1\narray A over T [128, -32769, 2147483648]\nassoc T of text {\"01234567890123456789012345678901234567890123456789012345678901\xc3\xa9\", \"abcdefghijklmnopqrstuvw\", \"abcdefghijklmnopqrstuvwx\"}\nend\n",
+        0,
+        b"chapel-workbook 2\narray A over T [128, -32769, 2147483648]\nassoc T of text {\"01234567890123456789012345678901234567890123456789012345678901\xc3\xa9\", \"abcdefghijklmnopqrstuvw\", \"abcdefghijklmnopqrstuvwx\"}\nhistory 1\n+ {\"op\":\"load\",\"text\":\"chapel-workbook 1\\narray A over T [128, -32769, 2147483648]\\nassoc T of text {\\\"01234567890123456789012345678901234567890123456789012345678901\xc3\xa9\\\", \\\"abcdefghijklmnopqrstuvw\\\", \\\"abcdefghijklmnopqrstuvwx\\\"}\\nend\\n\"}\nend\n",
+    ),
     (b"", 1, REFUSED),
     (b"chapel-workbook 2\nhistory 0\nend\n", 1, REFUSED),
     (HISTORY, 1, REFUSED),
     (b"\xff", 1, REFUSED),
     (b"{\"op\":\"print\"}\n", 1, REFUSED),
+    (HISTORY_OF_EVERY_KIND, 1, REFUSED),
+    (
+        b"chapel-workbook 1\narray A over D [0, 0, 0, -9]\narray B over S [7, 300] irv -70000\narray C over T [1, 9223372036854775807]\nrect D {1..4} cyclicDist(1, [2])\narray E over N []\nassoc N of int {}\nrect P {1..3, 2..8 by -3} none\nsparse Q of P {(1, 2), (3, 8)}\nsparse S of D {2, 4}\nassoc T of text {\"a, }\", \"\xc3\xa9}x\nend\n",
+        1,
+        REFUSED,
+    ),
 ];
 
 // Fails at each read.
@@ -190,5 +209,6 @@ fn fails_at_each<M: Mover>(
 fn failing_output(rt: HostRuntime) -> Result<(), Fail> {
     let alone = Crew::alone(&rt);
     fails_at_each(&rt, rt.alloc(), WORKBOOK, HISTORY, &alone)?;
+    fails_at_each(&rt, rt.alloc(), EVERY_KIND, HISTORY_OF_EVERY_KIND, &alone)?;
     fails_at_each(&rt, rt.alloc(), b"", REFUSED, &alone)
 }

@@ -214,8 +214,200 @@ const AT_LABELS: &str = r#"
 {"op":"print"} -> {"text":"chapel-workbook 1\narray A over N [6, 6, 6, 6]\nassoc N of text {\"\", \"b\", \"xxxxxxxxxxxxxxxxxxxxxxxxxxxxxxxxxxxxxxxxxxxxxxxxxxxxxxxxxxxxxxxx\", \"é\"}\nend\n"}
 "#;
 
+// Texts of at most 23 bytes, and one of 24 that is asked for, comes, goes and comes back; the others stay, in their order.
+const LONGER_TEXT_COMES: &str = r#"
+{"op":"assoc","d":"T","of":"text"} -> {"edit":1,"n":1}
+{"op":"add","d":"T","i":"bcdefghijklmnopqrstuvwx"} -> {"edit":2,"n":1}
+{"op":"add","d":"T","i":"abcdefghijklmnopqrstuvw"} -> {"edit":3,"n":1}
+{"op":"where","d":"T","i":"abcdefghijklmnopqrstuvwx"} -> {"error":"E06","name":"out-of-domain"}
+{"op":"remove","d":"T","i":"abcdefghijklmnopqrstuvwx"} -> {"edit":4,"n":0}
+{"op":"print"} -> {"text":"chapel-workbook 1\nassoc T of text {\"abcdefghijklmnopqrstuvw\", \"bcdefghijklmnopqrstuvwx\"}\nend\n"}
+{"op":"add","d":"T","i":"abcdefghijklmnopqrstuvwx"} -> {"edit":5,"n":1}
+{"op":"size","d":"T"} -> {"size":3}
+{"op":"where","d":"T","i":"abcdefghijklmnopqrstuvw"} -> {"locale":0}
+{"op":"where","d":"T","i":"abcdefghijklmnopqrstuvwx"} -> {"locale":0}
+{"op":"where","d":"T","i":"bcdefghijklmnopqrstuvwx"} -> {"locale":0}
+{"op":"where","d":"T","i":"abcdefghijklmnopqrstuv"} -> {"error":"E06","name":"out-of-domain"}
+{"op":"where","d":"T","i":"abcdefghijklmnopqrstuvwy"} -> {"error":"E06","name":"out-of-domain"}
+{"op":"print"} -> {"text":"chapel-workbook 1\nassoc T of text {\"abcdefghijklmnopqrstuvw\", \"abcdefghijklmnopqrstuvwx\", \"bcdefghijklmnopqrstuvwx\"}\nend\n"}
+{"op":"undo","k":5} -> {"n":1,"undone":5}
+{"op":"size","d":"T"} -> {"size":2}
+{"op":"where","d":"T","i":"abcdefghijklmnopqrstuvw"} -> {"locale":0}
+{"op":"where","d":"T","i":"abcdefghijklmnopqrstuvwx"} -> {"error":"E06","name":"out-of-domain"}
+{"op":"where","d":"T","i":"bcdefghijklmnopqrstuvwx"} -> {"locale":0}
+{"op":"print"} -> {"text":"chapel-workbook 1\nassoc T of text {\"abcdefghijklmnopqrstuvw\", \"bcdefghijklmnopqrstuvwx\"}\nend\n"}
+{"op":"redo","k":5} -> {"n":1,"redone":5}
+{"op":"print"} -> {"text":"chapel-workbook 1\nassoc T of text {\"abcdefghijklmnopqrstuvw\", \"abcdefghijklmnopqrstuvwx\", \"bcdefghijklmnopqrstuvwx\"}\nend\n"}
+{"op":"add","d":"T","i":"abcdefghijklmnopqrstuvwx"} -> {"edit":6,"n":0}
+{"op":"add","d":"T","i":"abcdefghijklmnopqrstuvw"} -> {"edit":7,"n":0}
+{"op":"undo","k":5} -> {"by":6,"error":"E14","name":"blocked"}
+{"op":"undo","k":3} -> {"by":7,"error":"E14","name":"blocked"}
+{"op":"remove","d":"T","i":"abcdefghijklmnopqrstuvw"} -> {"edit":8,"n":1}
+{"op":"print"} -> {"text":"chapel-workbook 1\nassoc T of text {\"abcdefghijklmnopqrstuvwx\", \"bcdefghijklmnopqrstuvwx\"}\nend\n"}
+{"op":"remove","d":"T","i":"abcdefghijklmnopqrstuvwx"} -> {"edit":9,"n":1}
+{"op":"print"} -> {"text":"chapel-workbook 1\nassoc T of text {\"bcdefghijklmnopqrstuvwx\"}\nend\n"}
+{"op":"undo","k":8} -> {"n":1,"undone":8}
+{"op":"print"} -> {"text":"chapel-workbook 1\nassoc T of text {\"abcdefghijklmnopqrstuvw\", \"bcdefghijklmnopqrstuvwx\"}\nend\n"}
+{"op":"undo","k":9} -> {"n":1,"undone":9}
+{"op":"redo","k":9} -> {"n":1,"redone":9}
+{"op":"add","d":"T","i":""} -> {"edit":10,"n":1}
+{"op":"size","d":"T"} -> {"size":3}
+{"op":"drop_domain","d":"T"} -> {"edit":11,"n":4}
+{"op":"undo","k":11} -> {"n":4,"undone":11}
+{"op":"undo","k":9} -> {"n":1,"undone":9}
+{"op":"print"} -> {"text":"chapel-workbook 1\nassoc T of text {\"\", \"abcdefghijklmnopqrstuvw\", \"abcdefghijklmnopqrstuvwx\", \"bcdefghijklmnopqrstuvwx\"}\nend\n"}
+"#;
+
+// The first text has 24 bytes; shorter ones, one of 64 bytes and one too many follow.
+const LONG_TEXT_FIRST: &str = r#"
+{"op":"assoc","d":"T","of":"text"} -> {"edit":1,"n":1}
+{"op":"add","d":"T","i":"abcdefghijklmnopqrstuvwx"} -> {"edit":2,"n":1}
+{"op":"size","d":"T"} -> {"size":1}
+{"op":"where","d":"T","i":"abcdefghijklmnopqrstuvwx"} -> {"locale":0}
+{"op":"where","d":"T","i":"abcdefghijklmnopqrstuvw"} -> {"error":"E06","name":"out-of-domain"}
+{"op":"add","d":"T","i":"a"} -> {"edit":3,"n":1}
+{"op":"add","d":"T","i":"0123456789012345678901234567890123456789012345678901234567890123"} -> {"edit":4,"n":1}
+{"op":"add","d":"T","i":"01234567890123456789012345678901234567890123456789012345678901234"} -> {"error":"E01","name":"bad-request"}
+{"op":"add","d":"T","i":""} -> {"edit":5,"n":1}
+{"op":"print"} -> {"text":"chapel-workbook 1\nassoc T of text {\"\", \"0123456789012345678901234567890123456789012345678901234567890123\", \"a\", \"abcdefghijklmnopqrstuvwx\"}\nend\n"}
+{"op":"undo","k":2} -> {"n":1,"undone":2}
+{"op":"undo","k":4} -> {"n":1,"undone":4}
+{"op":"print"} -> {"text":"chapel-workbook 1\nassoc T of text {\"\", \"a\"}\nend\n"}
+{"op":"redo","k":2} -> {"n":1,"redone":2}
+{"op":"remove","d":"T","i":"a"} -> {"edit":6,"n":1}
+{"op":"remove","d":"T","i":"abcdefghijklmnopqrstuvwx"} -> {"edit":7,"n":1}
+{"op":"remove","d":"T","i":""} -> {"edit":8,"n":1}
+{"op":"print"} -> {"text":"chapel-workbook 1\nassoc T of text {}\nend\n"}
+{"op":"add","d":"T","i":"abcdefghijklmnopqrstuvw"} -> {"edit":9,"n":1}
+{"op":"undo","k":7} -> {"n":1,"undone":7}
+{"op":"print"} -> {"text":"chapel-workbook 1\nassoc T of text {\"abcdefghijklmnopqrstuvw\", \"abcdefghijklmnopqrstuvwx\"}\nend\n"}
+"#;
+
+// Short and long texts stand by their bytes, not by how many they have.
+const ORDER_OF_TEXTS: &str = r#"
+{"op":"assoc","d":"T","of":"text"} -> {"edit":1,"n":1}
+{"op":"reshape","d":"T","to":"{\"z\", \"b\", \"a  \", \"aa\", \"a\", \"abcdefghijklmnopqrstuvx\", \"\", \"a \", \"abcdefghijklmnopqrstuvw\", \"abcdefghijklmnopqrstuv\"}"} -> {"edit":2,"n":10}
+{"op":"print"} -> {"text":"chapel-workbook 1\nassoc T of text {\"\", \"a\", \"a \", \"a  \", \"aa\", \"abcdefghijklmnopqrstuv\", \"abcdefghijklmnopqrstuvw\", \"abcdefghijklmnopqrstuvx\", \"b\", \"z\"}\nend\n"}
+{"op":"reshape","d":"T","or":"{\"éabcdefghijklmnopqrstuv\", \"abcdefghijklmnopqrstuvwxyz\", \"éabcdefghijklmnopqrstu\", \"abcdefghijklmnopqrstuvwy\", \"é\", \"abcdefghijklmnopqrstuvwx\", \"abcdefghijklmnopqrstuvw\"}"} -> {"edit":3,"n":6}
+{"op":"size","d":"T"} -> {"size":16}
+{"op":"print"} -> {"text":"chapel-workbook 1\nassoc T of text {\"\", \"a\", \"a \", \"a  \", \"aa\", \"abcdefghijklmnopqrstuv\", \"abcdefghijklmnopqrstuvw\", \"abcdefghijklmnopqrstuvwx\", \"abcdefghijklmnopqrstuvwxyz\", \"abcdefghijklmnopqrstuvwy\", \"abcdefghijklmnopqrstuvx\", \"b\", \"z\", \"é\", \"éabcdefghijklmnopqrstu\", \"éabcdefghijklmnopqrstuv\"}\nend\n"}
+{"op":"undo","k":3} -> {"n":6,"undone":3}
+{"op":"print"} -> {"text":"chapel-workbook 1\nassoc T of text {\"\", \"a\", \"a \", \"a  \", \"aa\", \"abcdefghijklmnopqrstuv\", \"abcdefghijklmnopqrstuvw\", \"abcdefghijklmnopqrstuvx\", \"b\", \"z\"}\nend\n"}
+"#;
+
+// Characters of two, three and four bytes at the end of texts of 23 and of 24 bytes: bytes count, not characters.
+const TEXTS_BEYOND_ASCII: &str = r#"
+{"op":"assoc","d":"T","of":"text"} -> {"edit":1,"n":1}
+{"op":"add","d":"T","i":"abcdefghijklmnopqrstué"} -> {"edit":2,"n":1}
+{"op":"add","d":"T","i":"abcdefghijklmnopqrst€"} -> {"edit":3,"n":1}
+{"op":"add","d":"T","i":"abcdefghijklmnopqrs𝄞"} -> {"edit":4,"n":1}
+{"op":"print"} -> {"text":"chapel-workbook 1\nassoc T of text {\"abcdefghijklmnopqrstué\", \"abcdefghijklmnopqrst€\", \"abcdefghijklmnopqrs𝄞\"}\nend\n"}
+{"op":"where","d":"T","i":"abcdefghijklmnopqrstuvé"} -> {"error":"E06","name":"out-of-domain"}
+{"op":"add","d":"T","i":"abcdefghijklmnopqrstuvé"} -> {"edit":5,"n":1}
+{"op":"print"} -> {"text":"chapel-workbook 1\nassoc T of text {\"abcdefghijklmnopqrstuvé\", \"abcdefghijklmnopqrstué\", \"abcdefghijklmnopqrst€\", \"abcdefghijklmnopqrs𝄞\"}\nend\n"}
+{"op":"add","d":"T","i":"abcdefghijklmnopqrstu€"} -> {"edit":6,"n":1}
+{"op":"add","d":"T","i":"abcdefghijklmnopqrst𝄞"} -> {"edit":7,"n":1}
+{"op":"print"} -> {"text":"chapel-workbook 1\nassoc T of text {\"abcdefghijklmnopqrstuvé\", \"abcdefghijklmnopqrstué\", \"abcdefghijklmnopqrstu€\", \"abcdefghijklmnopqrst€\", \"abcdefghijklmnopqrst𝄞\", \"abcdefghijklmnopqrs𝄞\"}\nend\n"}
+{"op":"add","d":"T","i":"012345678901234567890123456789012345678901234567890123456789012é"} -> {"error":"E01","name":"bad-request"}
+{"op":"add","d":"T","i":"01234567890123456789012345678901234567890123456789012345678901é"} -> {"edit":8,"n":1}
+{"op":"undo","k":5} -> {"n":1,"undone":5}
+{"op":"remove","d":"T","i":"abcdefghijklmnopqrstu€"} -> {"edit":9,"n":1}
+{"op":"remove","d":"T","i":"abcdefghijklmnopqrs𝄞"} -> {"edit":10,"n":1}
+{"op":"print"} -> {"text":"chapel-workbook 1\nassoc T of text {\"01234567890123456789012345678901234567890123456789012345678901é\", \"abcdefghijklmnopqrstué\", \"abcdefghijklmnopqrst€\", \"abcdefghijklmnopqrst𝄞\"}\nend\n"}
+{"op":"redo","k":5} -> {"n":1,"redone":5}
+{"op":"where","d":"T","i":"abcdefghijklmnopqrstuvé"} -> {"locale":0}
+{"op":"where","d":"T","i":"abcdefghijklmnopqrstué"} -> {"locale":0}
+"#;
+
+// Elements of an array stay with their texts while longer ones come and go.
+const ELEMENTS_STAY_WITH_TEXTS: &str = r#"
+{"op":"assoc","d":"T","of":"text"} -> {"edit":1,"n":1}
+{"op":"reshape","d":"T","to":"{\"w\", \"bcdefghijklmnopqrstuvwx\"}"} -> {"edit":2,"n":2}
+{"op":"array","a":"A","d":"T"} -> {"edit":3,"n":5}
+{"op":"set","a":"A","i":"w","v":7} -> {"edit":4,"n":1}
+{"op":"set","a":"A","i":"bcdefghijklmnopqrstuvwx","v":8} -> {"edit":5,"n":1}
+{"op":"get","a":"A","i":"abcdefghijklmnopqrstuvwx"} -> {"error":"E06","name":"out-of-domain"}
+{"op":"add","d":"T","i":"abcdefghijklmnopqrstuvwx"} -> {"edit":6,"n":2}
+{"op":"get","a":"A","i":"w"} -> {"value":7}
+{"op":"get","a":"A","i":"bcdefghijklmnopqrstuvwx"} -> {"value":8}
+{"op":"get","a":"A","i":"abcdefghijklmnopqrstuvwx"} -> {"value":0}
+{"op":"set","a":"A","i":"abcdefghijklmnopqrstuvwx","v":9} -> {"edit":7,"n":1}
+{"op":"piece","a":"A","l":0} -> {"piece":[["abcdefghijklmnopqrstuvwx",9],["bcdefghijklmnopqrstuvwx",8],["w",7]]}
+{"op":"print"} -> {"text":"chapel-workbook 1\narray A over T [9, 8, 7]\nassoc T of text {\"abcdefghijklmnopqrstuvwx\", \"bcdefghijklmnopqrstuvwx\", \"w\"}\nend\n"}
+{"op":"undo","k":6} -> {"by":7,"error":"E14","name":"blocked"}
+{"op":"undo","k":7} -> {"n":1,"undone":7}
+{"op":"undo","k":6} -> {"n":2,"undone":6}
+{"op":"print"} -> {"text":"chapel-workbook 1\narray A over T [8, 7]\nassoc T of text {\"bcdefghijklmnopqrstuvwx\", \"w\"}\nend\n"}
+{"op":"redo","k":6} -> {"n":2,"redone":6}
+{"op":"redo","k":7} -> {"n":1,"redone":7}
+{"op":"remove","d":"T","i":"bcdefghijklmnopqrstuvwx"} -> {"edit":8,"n":2}
+{"op":"piece","a":"A","l":0} -> {"piece":[["abcdefghijklmnopqrstuvwx",9],["w",7]]}
+{"op":"undo","k":8} -> {"n":2,"undone":8}
+{"op":"get","a":"A","i":"bcdefghijklmnopqrstuvwx"} -> {"value":8}
+{"op":"remove","d":"T","i":"abcdefghijklmnopqrstuvwx"} -> {"edit":9,"n":2}
+{"op":"piece","a":"A","l":0} -> {"piece":[["bcdefghijklmnopqrstuvwx",8],["w",7]]}
+{"op":"undo","k":9} -> {"n":2,"undone":9}
+{"op":"get","a":"A","i":"abcdefghijklmnopqrstuvwx"} -> {"value":9}
+{"op":"drop_array","a":"A"} -> {"edit":10,"n":6}
+{"op":"add","d":"T","i":"0123456789012345678901234567890123456789012345678901234567890123"} -> {"edit":11,"n":1}
+{"op":"undo","k":10} -> {"by":11,"error":"E14","name":"blocked"}
+{"op":"undo","k":11} -> {"n":1,"undone":11}
+{"op":"undo","k":10} -> {"n":6,"undone":10}
+{"op":"redo","k":11} -> {"n":2,"redone":11}
+{"op":"print"} -> {"text":"chapel-workbook 1\narray A over T [0, 9, 8, 7]\nassoc T of text {\"0123456789012345678901234567890123456789012345678901234567890123\", \"abcdefghijklmnopqrstuvwx\", \"bcdefghijklmnopqrstuvwx\", \"w\"}\nend\n"}
+{"op":"reduce","a":"A","how":"+"} -> {"value":24}
+"#;
+
+// Unions, intersections and differences of a domain of short texts and one with a long text.
+const SETS_OF_SHORT_AND_LONG_TEXTS: &str = r#"
+{"op":"assoc","d":"S","of":"text"} -> {"edit":1,"n":1}
+{"op":"reshape","d":"S","to":"{\"a\", \"abcdefghijklmnopqrstuvw\"}"} -> {"edit":2,"n":2}
+{"op":"assoc","d":"L","of":"text"} -> {"edit":3,"n":1}
+{"op":"reshape","d":"L","to":"{\"abcdefghijklmnopqrstuvw\", \"abcdefghijklmnopqrstuvwx\"}"} -> {"edit":4,"n":2}
+{"op":"reshape","d":"S","or":"L"} -> {"edit":5,"n":1}
+{"op":"print"} -> {"text":"chapel-workbook 1\nassoc L of text {\"abcdefghijklmnopqrstuvw\", \"abcdefghijklmnopqrstuvwx\"}\nassoc S of text {\"a\", \"abcdefghijklmnopqrstuvw\", \"abcdefghijklmnopqrstuvwx\"}\nend\n"}
+{"op":"undo","k":5} -> {"n":1,"undone":5}
+{"op":"reshape","d":"S","and":"L"} -> {"edit":6,"n":1}
+{"op":"print"} -> {"text":"chapel-workbook 1\nassoc L of text {\"abcdefghijklmnopqrstuvw\", \"abcdefghijklmnopqrstuvwx\"}\nassoc S of text {\"abcdefghijklmnopqrstuvw\"}\nend\n"}
+{"op":"undo","k":6} -> {"n":1,"undone":6}
+{"op":"reshape","d":"S","xor":"L"} -> {"edit":7,"n":2}
+{"op":"print"} -> {"text":"chapel-workbook 1\nassoc L of text {\"abcdefghijklmnopqrstuvw\", \"abcdefghijklmnopqrstuvwx\"}\nassoc S of text {\"a\", \"abcdefghijklmnopqrstuvwx\"}\nend\n"}
+{"op":"undo","k":7} -> {"n":2,"undone":7}
+{"op":"reshape","d":"S","minus":"L"} -> {"edit":8,"n":1}
+{"op":"print"} -> {"text":"chapel-workbook 1\nassoc L of text {\"abcdefghijklmnopqrstuvw\", \"abcdefghijklmnopqrstuvwx\"}\nassoc S of text {\"a\"}\nend\n"}
+{"op":"reshape","d":"L","minus":"{\"abcdefghijklmnopqrstuvwx\"}"} -> {"edit":9,"n":1}
+{"op":"undo","k":8} -> {"n":1,"undone":8}
+{"op":"reshape","d":"S","to":"L"} -> {"edit":10,"n":1}
+{"op":"print"} -> {"text":"chapel-workbook 1\nassoc L of text {\"abcdefghijklmnopqrstuvw\"}\nassoc S of text {\"abcdefghijklmnopqrstuvw\"}\nend\n"}
+{"op":"undo","k":9} -> {"by":10,"error":"E14","name":"blocked"}
+{"op":"undo","k":10} -> {"n":1,"undone":10}
+{"op":"undo","k":9} -> {"n":1,"undone":9}
+{"op":"reshape","d":"L","or":"S"} -> {"edit":11,"n":1}
+{"op":"print"} -> {"text":"chapel-workbook 1\nassoc L of text {\"a\", \"abcdefghijklmnopqrstuvw\", \"abcdefghijklmnopqrstuvwx\"}\nassoc S of text {\"a\", \"abcdefghijklmnopqrstuvw\"}\nend\n"}
+"#;
+
+// Short and long texts that come and go in one edit.
+const TEXTS_IN_A_TRANSACTION: &str = r#"
+{"op":"assoc","d":"T","of":"text"} -> {"edit":1,"n":1}
+{"op":"transaction","edits":[{"op":"add","d":"T","i":"b"},{"op":"add","d":"T","i":"abcdefghijklmnopqrstuvwx"},{"op":"add","d":"T","i":"abcdefghijklmnopqrstuvw"},{"op":"remove","d":"T","i":"abcdefghijklmnopqrstuvwx"}]} -> {"edit":2,"n":3}
+{"op":"print"} -> {"text":"chapel-workbook 1\nassoc T of text {\"abcdefghijklmnopqrstuvw\", \"b\"}\nend\n"}
+{"op":"undo","k":2} -> {"n":3,"undone":2}
+{"op":"size","d":"T"} -> {"size":0}
+{"op":"redo","k":2} -> {"n":3,"redone":2}
+{"op":"transaction","edits":[{"op":"add","d":"T","i":"abcdefghijklmnopqrstuvwx"},{"op":"reshape","d":"T","minus":"{\"b\"}"},{"op":"add","d":"T","i":"0123456789012345678901234567890123456789012345678901234567890123"}]} -> {"edit":3,"n":3}
+{"op":"print"} -> {"text":"chapel-workbook 1\nassoc T of text {\"0123456789012345678901234567890123456789012345678901234567890123\", \"abcdefghijklmnopqrstuvw\", \"abcdefghijklmnopqrstuvwx\"}\nend\n"}
+{"op":"transaction","edits":[{"op":"remove","d":"T","i":"abcdefghijklmnopqrstuvwx"},{"op":"add","d":"T","i":5}]} -> {"at":1,"error":"E05","name":"wrong-kind"}
+{"op":"where","d":"T","i":"abcdefghijklmnopqrstuvwx"} -> {"locale":0}
+{"op":"undo","k":3} -> {"n":3,"undone":3}
+{"op":"print"} -> {"text":"chapel-workbook 1\nassoc T of text {\"abcdefghijklmnopqrstuvw\", \"b\"}\nend\n"}
+{"op":"transaction","edits":[{"op":"array","a":"A","d":"T"},{"op":"set","a":"A","i":"abcdefghijklmnopqrstuvw","v":4},{"op":"add","d":"T","i":"abcdefghijklmnopqrstuvwx"},{"op":"set","a":"A","i":"abcdefghijklmnopqrstuvwx","v":5}]} -> {"edit":4,"n":7}
+{"op":"print"} -> {"text":"chapel-workbook 1\narray A over T [4, 5, 0]\nassoc T of text {\"abcdefghijklmnopqrstuvw\", \"abcdefghijklmnopqrstuvwx\", \"b\"}\nend\n"}
+{"op":"undo","k":4} -> {"n":7,"undone":4}
+{"op":"print"} -> {"text":"chapel-workbook 1\nassoc T of text {\"abcdefghijklmnopqrstuvw\", \"b\"}\nend\n"}
+"#;
+
 /// Each script, over a history of its own.
-pub const SCRIPTS: [Script; 9] = [
+pub const SCRIPTS: [Script; 16] = [
     ("", ADDING_TWICE, 4, 3),
     ("", SPARSE_WITH_AN_IMPLICIT_VALUE, 7, 25),
     ("", INDEX_REMOVED, 7, 15),
@@ -225,4 +417,11 @@ pub const SCRIPTS: [Script; 9] = [
     ("", COMING_AND_LEAVING, 5, 27),
     ("", COMING_UNDER_AN_ARRAY, 3, 20),
     ("", AT_LABELS, 10, 65),
+    ("", LONGER_TEXT_COMES, 11, 21),
+    ("", LONG_TEXT_FIRST, 9, 13),
+    ("", ORDER_OF_TEXTS, 3, 23),
+    ("", TEXTS_BEYOND_ASCII, 10, 12),
+    ("", ELEMENTS_STAY_WITH_TEXTS, 11, 43),
+    ("", SETS_OF_SHORT_AND_LONG_TEXTS, 11, 21),
+    ("", TEXTS_IN_A_TRANSACTION, 4, 30),
 ];
