@@ -8,3 +8,4 @@ pub mod MadeAnew
 pub mod Judged
 pub mod Telling
 pub mod LinesLeft
+pub mod Fronts

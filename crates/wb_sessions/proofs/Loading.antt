@@ -1,5 +1,6 @@
 -- The load of a workbook's text is accepted where there is nothing yet, and makes that workbook.
-use Rattle.std.proofs.Common.{◌≡◌, ℕ, zero, suc, true, List, [], ◌∷◌, Some, is_some, Ok, IsOk, slice_get, refl, sym, ap, subst, ◌∙◌}
+use Rattle.std.proofs.Common.{◌≡◌, ℕ, zero, suc, true, List, [], ◌∷◌, ◌++◌, Some, is_some, Ok, IsOk, slice_get, codes, refl, sym, ap, ap₂, subst, ◌∙◌}
+use Rattle.std.specs.Fmt.{digits}
 use Rattle.std.proofs.lemmas.List.{append-nil}
 use Rattle.std.specs.FinMap.{empty, get-empty}
 use Rattle.std.specs.FinMap.Entries.{where_key}
@@ -18,12 +19,11 @@ use Rattle.wb_edit.specs.declared.edit.Edit.TheVariants.{Load}
 use Rattle.wb_edit.proofs.Loading.{becomes}
 use Rattle.wb_history.specs.Past.{meant}
 use Rattle.wb_history.specs.Restored.{one_of}
-use Rattle.wb_protocol.specs.Histories.Text.{AreProper, AreSaid, edit_line, history_text}
+use Rattle.wb_protocol.specs.Histories.Text.{AreProper, AreSaid, edit_line, history_text, objects_text}
 use Rattle.wb_text.specs.Lines.{book_text}
 use Rattle.wb_text.specs.Texts.Books.{IsBookText, book_in, cells_in, is_book_text}
 use Rattle.wb_text.proofs.Texts.Back.{book_back, cells_back}
-use Rattle.wb_sessions.specs.Checking.{IsPrinted}
-use Rattle.wb_sessions.specs.Upgrading.{loaded, IsUpgraded, Prints}
+use Rattle.wb_sessions.specs.Upgrading.{loaded, IsUpgraded, text_by_lines}
 
 -- ---- in the empty workbook
 
@@ -67,8 +67,9 @@ made_text text h = h.spelled ∙ ap book_text (sym (made text ∙ cells_back tex
 pub only_line : (text : List ℕ) → flat_map edit_line (loaded text) ≡ edit_line (one_of (Load text) true)
 only_line text = append-nil (edit_line (one_of (Load text) true))
 
--- what was printed is the text of the history of the load of what was read
-pub prints : (read bytes whole told text : List ℕ) (status : ℕ) → bytes ≡ read → whole ≡ history_text (loaded bytes) → told ≡ whole
-    → IsPrinted told status text → Prints read status text
-prints read bytes whole told text status same is told_is h =
-    subst (λ w. IsPrinted w status text) (told_is ∙ is ∙ ap (λ b. history_text (loaded b)) same) h
+-- the text of its history, by the lines of the objects and that line
+pub by_lines : (text objects line : List ℕ) → objects ≡ objects_text (replay (meant (loaded text))) → line ≡ edit_line (one_of (Load text) true)
+    → text_by_lines objects line ≡ history_text (loaded text)
+unfolding digits
+by_lines text objects line above is =
+    ap₂ (λ os l. codes "chapel-workbook 2\n" ++ (os ++ (codes "history 1\n" ++ (l ++ codes "end\n")))) above (is ∙ sym (only_line text))

@@ -5,6 +5,7 @@ use Rattle.wb_lines.specs.declared.machine.SessionEnd.TheVariants.{Done, ReadFau
 use Rattle.wb_sessions.specs.Checking.{IsFault, IsPrinted, Says, status_of_verdict}
 use Rattle.wb_sessions.specs.Reasons.{IsToldOf, WhyNothing}
 use Rattle.wb_sessions.specs.Running.{status_of}
+use Rattle.wb_sessions.specs.Upgrading.{Upgrades, UpgradesBook}
 use Rattle.wb_sessions.specs.declared.checking.Verdict.{Verdict}
 use Rattle.wb_sessions.specs.declared.checking.Verdict.TheVariants as verdicts
 use Rattle.wb_sessions.specs.declared.reasons.Reason.{Reason}
@@ -44,3 +45,14 @@ told_of_1 (verdicts.Workbook count) status text bytes told e says h = absurd (no
 told_of_1 (verdicts.History count edits) status text bytes told e says h = absurd (no_say_of_1 (verdicts.History count edits) status text e refl says)
 told_of_1 (verdicts.Journal count edits) status text bytes told e says h = absurd (no_say_of_1 (verdicts.Journal count edits) status text e refl says)
 told_of_1 verdicts.Refused status text bytes told e says h = h
+
+-- ---- of a workbook's text
+
+-- so has a text that was upgraded
+pub no_book_of_1 : (read : List ℕ) (status : ℕ) (text : List ℕ) → status ≡ 1 → UpgradesBook read status text → ⊥
+no_book_of_1 read status text e (inl done) = no_print_of_1 status _ text e done.1
+no_book_of_1 read status text e (inr fault) = no_fault_of_1 status e fault.0
+
+pub upgrades_book : (read : List ℕ) (status : ℕ) (text : List ℕ) → UpgradesBook read status text → Upgrades read status text
+upgrades_book read status text (inl done) = inl done
+upgrades_book read status text (inr fault) = inr (inr fault)

@@ -1,5 +1,6 @@
 -- The text of a workbook, made the text of a history of one edit: the load of that text.
-use Rattle.std.specs.Prelude.{◌≡◌, ◌⊎◌, ℕ, true, List, [], ◌∷◌}
+use Rattle.std.specs.Prelude.{◌≡◌, ◌⊎◌, ℕ, true, List, [], ◌∷◌, ◌++◌, Option, codes}
+use Rattle.std.specs.Io.KnownBytes.{Appends}
 use Rattle.std.specs.Str.{IsUtf8}
 use Rattle.selective_undo.specs.History.{replay}
 use Rattle.wb_cells.specs.Cells.{Cells}
@@ -7,6 +8,7 @@ use Rattle.wb_cells.specs.WellFormed.{IsWellFormed}
 use Rattle.wb_edit.specs.declared.edit.Edit.TheVariants.{Load}
 use Rattle.wb_history.specs.Past.{Numbered, meant}
 use Rattle.wb_history.specs.Restored.{one_of}
+use Rattle.wb_kept.specs.Sessions.{IsFront}
 use Rattle.wb_reading.specs.Reading.{IsNoBook}
 use Rattle.wb_protocol.specs.Histories.Text.{history_text, IsHistory}
 use Rattle.wb_text.specs.Lines.{book_text}
@@ -37,3 +39,17 @@ HasNoBook bytes = ¬ IsUtf8 bytes ⊎ IsNoBook bytes
 -- or there was a fault, and nothing was
 abbrev pub Upgrades : List ℕ → ℕ → List ℕ → Type 0
 Upgrades read status text = (IsUpgraded read × Prints read status text) ⊎ ((HasNoBook read × Says Refused status text) ⊎ (IsFault status × (text ≡ [])))
+
+-- ---- for private clauses
+
+-- the text of a history of one edit, by the lines of its workbook's objects and the line of the edit
+abbrev pub text_by_lines : List ℕ → List ℕ → List ℕ
+text_by_lines objects line = codes "chapel-workbook 2\n" ++ (objects ++ (codes "history 1\n" ++ (line ++ codes "end\n")))
+
+-- a front of the bytes was appended
+abbrev pub AppendsFront : Option (List ℕ) → Option (List ℕ) → List ℕ → Type 0
+AppendsFront old new bytes = (front : List ℕ) × Appends old new front × IsFront front bytes
+
+-- a workbook's text became that of a history, which was printed; or there was a fault, and nothing was
+abbrev pub UpgradesBook : List ℕ → ℕ → List ℕ → Type 0
+UpgradesBook read status text = (IsUpgraded read × Prints read status text) ⊎ (IsFault status × (text ≡ []))

@@ -1,82 +1,104 @@
 //! The text of a workbook, made the text of a history: that of its load.
-ghost use Rattle.std.specs.Prelude.{◌≡◌, ◌⊎◌, ◌++◌, ℕ, List, [], Some, true, IfOk, OnOk, IfSome, IfNone, string_bytes};
+ghost use Rattle.std.specs.Prelude.{◌≡◌, ◌⊎◌, ◌++◌, ℕ, List, [], Some, true, IfOk, IfErr, OnOk, OnErr, IfSome, IfNone};
 ghost use Rattle.std.specs.Io.KnownBytes.{Appends, Consumes, IsAtEnd};
-ghost use Rattle.std.specs.List.{flat_map};
-ghost use Rattle.selective_undo.specs.History.{replay};
-ghost use Rattle.wb_history.specs.Past.{meant};
-ghost use Rattle.wb_protocol.specs.Encoding.Text.{AreJson, edit_line};
-ghost use Rattle.wb_protocol.specs.Histories.Text.{history_text, objects_text};
-ghost use Rattle.wb_sessions.specs.Checking.{IsAnswered, IsFault, Says};
+ghost use Rattle.wb_reading.specs.Reading.{IsNoBook};
+ghost use Rattle.wb_sessions.specs.Checking.{IsAnswered, IsFault, IsPrinted, Says};
 ghost use Rattle.wb_sessions.specs.Reasons.{Tells, WhyNoBook};
 ghost use Rattle.wb_sessions.specs.Running.{HasFailed};
-ghost use Rattle.wb_sessions.specs.Upgrading.{loaded, IsUpgraded, HasNoBook, Upgrades};
+ghost use Rattle.wb_sessions.specs.Upgrading.{AppendsFront, HasNoBook, Upgrades, UpgradesBook, text_by_lines};
 ghost use Rattle.wb_sessions.specs.declared.checking.Verdict.TheVariants.{Refused};
 ghost use Rattle.wb_sessions.specs.declared.reasons.Reason.{Reason};
+ghost use Rattle.wb_text.specs.Texts.Books.{IsBookText};
 
-use crate::checking::{Verdict, say, tell};
+use crate::checking::{Verdict, say};
 use crate::reasons::{Reason, why_no_book};
-use crate::running::{INPUT_OR_OUTPUT_FAILED, NO_MEMORY};
-use std::alloc::{AllocError, Global};
-use std::fmt::Write;
+use crate::running::{DONE, INPUT_OR_OUTPUT_FAILED, NO_MEMORY};
+use std::alloc::Global;
 use std::str::from_utf8;
 use wb_arrays::Mover;
-use wb_edit::Edit;
-use wb_lines::{LineFault, Sink, Source, read_all};
-use wb_protocol::encoding::{objects_in, push_edit};
+use wb_lines::{LineFault, NothingHeld, Sink, Source, WriteFault, read_all, send};
+use wb_protocol::encoding::{load_line, objects_in};
 use wb_range::NoMemory;
-use wb_reading::{BookErr, read_text};
-use wb_text::BookText;
+use wb_reading::{BookErr, read_book};
 
-// The lines of the workbook's objects, put at the end of a text: as they stand in the text of the workbook.
-fn push_objects(out: &mut String, text: &BookText) -> Result<(), AllocError>
-    ensures { OnOk result (string_bytes out.new ≡ string_bytes out.old ++ objects_text (replay (meant (loaded text.now)))) }
+// That a text is the text of a workbook. The workbook is let go.
+fn check_book(alloc: Global, text: &str) -> Result<(), BookErr>
+    ensures book { OnOk result (IsBookText text.now) }
+    ensures bad { IfErr result (λ why. why ≡ BookErr.Bad → IsNoBook text.now) }
 {
-    match objects_in(text.as_str()) {
-        Some(lines) => out.push_str(lines),
-        None => unreachable!(),
-    }
+    let book = read_book(alloc, text)?;
+    // For the proof: the workbook is well formed.
+    let _well_formed = book.writes();
+    Ok(())
 }
 
-// The line of the load, put at the end of a text: the one of its history.
-fn push_load(alloc: Global, out: &mut String, text: BookText) -> Result<(), NoMemory>
-    ensures lines { OnOk result (string_bytes out.new ≡ string_bytes out.old ++ flat_map edit_line (loaded text)) }
-    ensures json { OnOk result (AreJson (loaded text)) }
-{
-    push_edit(alloc, out, &Edit::Load(text), true)
-}
-
-// The text of the history whose one edit is the load of this text. The history is not made: its workbook has this text.
-fn text_of_load(alloc: Global, text: BookText) -> Result<String, NoMemory>
-    ensures text { IfOk result (λ t. string_bytes t ≡ history_text (loaded text)) }
-    ensures upgraded { OnOk result (IsUpgraded text) }
-{
-    // For the proof: the text is a workbook's.
-    let _workbook = text.as_str();
-    let count = 1;
-    let mut out = String::new(alloc);
-    out.push_str("chapel-workbook 2\n")?;
-    push_objects(&mut out, &text)?;
-    write!(out, "history {count}\n")?;
-    push_load(alloc, &mut out, text)?;
-    out.push_str("end\n")?;
-    Ok(out)
-}
-
-// The text of the history whose one edit is the load of these bytes, where they are the text of a workbook.
-fn upgraded(alloc: Global, bytes: &[u8]) -> Result<Option<String>, NoMemory>
-    ensures some { IfOk result (λ r. IfSome r (λ t. IsUpgraded bytes.now × (string_bytes t ≡ history_text (loaded bytes.now)))) }
+// The bytes as a text, where they are the text of a workbook.
+fn text_of_book(alloc: Global, bytes: &[u8]) -> Result<Option<&str>, NoMemory>
+    ensures some { IfOk result (λ r. IfSome r (λ text. (text.now ≡ bytes.now) × IsBookText bytes.now)) }
     ensures none { IfOk result (λ r. IfNone r (HasNoBook bytes.now)) }
 {
     let Ok(text) = from_utf8(bytes) else {
         return Ok(None);
     };
-    match read_text(alloc, text) {
-        Ok(book) => match text_of_load(alloc, book) {
-            Ok(history) => Ok(Some(history)),
-            Err(NoMemory) => Err(NoMemory),
-        },
+    match check_book(alloc, text) {
+        Ok(()) => Ok(Some(text)),
         Err(BookErr::Bad) => Ok(None),
         Err(BookErr::NoMemory) => Err(NoMemory),
+    }
+}
+
+// Sends two texts, one after the other. After a fault a front of them went out.
+fn send_two<W: Sink>(first: &[u8], second: &[u8], writer: &mut W) -> Result<(), WriteFault>
+    ensures sent { OnOk result (Appends (W.contents writer.old) (W.contents writer.new) (first.now ++ second.now)) }
+    ensures part { OnErr result (AppendsFront (W.contents writer.old) (W.contents writer.new) (first.now ++ second.now)) }
+    ensures failed { OnErr result (W.failed writer.new ≡ true) }
+{
+    send(writer, &NothingHeld, first)?;
+    send(writer, &NothingHeld, second)
+}
+
+// Sends the text of a history of one edit in pieces, by the lines of its objects and the line of the edit.
+fn send_history<W: Sink>(objects: &str, line: &[u8], writer: &mut W) -> Result<(), WriteFault>
+    ensures sent { OnOk result (Appends (W.contents writer.old) (W.contents writer.new) (text_by_lines objects.now line.now)) }
+    ensures part { OnErr result (AppendsFront (W.contents writer.old) (W.contents writer.new) (text_by_lines objects.now line.now)) }
+    ensures failed { OnErr result (W.failed writer.new ≡ true) }
+{
+    send_two(b"chapel-workbook 2\n", objects.as_bytes(), writer)?;
+    send_two(b"history 1\n", line, writer)?;
+    send(writer, &NothingHeld, b"end\n")
+}
+
+// Prints the text of a history of one edit: the exit status.
+fn tell_history<W: Sink>(objects: &str, line: &[u8], writer: &mut W) -> u8
+    ensures told { (text : List ℕ) × Appends (W.contents writer.old) (W.contents writer.new) text
+        × IsPrinted (text_by_lines objects.now line.now) result text }
+    ensures flushed { result ≡ 0 → W.flushed writer.new ≡ true }
+    ensures failed { result ≡ 3 → W.failed writer.new ≡ true }
+{
+    if send_history(objects, line, writer).is_err() {
+        return INPUT_OR_OUTPUT_FAILED;
+    }
+    if writer.flush().is_err() {
+        return INPUT_OR_OUTPUT_FAILED;
+    }
+    DONE
+}
+
+// Prints the text of the history whose one edit is the load of a workbook's text: the exit status. The history is not made: its
+// workbook has this text. What takes memory is made before anything is printed: the line of the load.
+fn upgrade_text<W: Sink>(alloc: Global, text: &str, writer: &mut W) -> u8
+    requires { IsBookText text.now }
+    ensures upgrades { (printed : List ℕ) × Appends (W.contents writer.old) (W.contents writer.new) printed
+        × UpgradesBook text.now result printed }
+    ensures flushed { result ≡ 0 → W.flushed writer.new ≡ true }
+    ensures failed { result ≡ 3 → W.failed writer.new ≡ true }
+{
+    let Some(objects) = objects_in(text) else {
+        unreachable!();
+    };
+    match load_line(alloc, text, true) {
+        Ok(line) => tell_history(objects, &line, writer),
+        Err(NoMemory) => NO_MEMORY,
     }
 }
 
@@ -128,8 +150,8 @@ pub fn upgrade_with<R: Source, W: Sink, M: Mover>(
         Err(LineFault::ReadFault) => return INPUT_OR_OUTPUT_FAILED,
         Err(LineFault::TooManyReads) => return INPUT_OR_OUTPUT_FAILED,
     };
-    match upgraded(alloc, &bytes) {
-        Ok(Some(text)) => tell(text.as_str(), writer),
+    match text_of_book(alloc, &bytes) {
+        Ok(Some(text)) => upgrade_text(alloc, text, writer),
         Ok(None) => refuse(alloc, &bytes, writer, mover, why),
         Err(NoMemory) => NO_MEMORY,
     }

@@ -1,30 +1,26 @@
-use Rattle.std.proofs.Common.{◌≡◌, inl, inr, rules, string_bytes, subst}
-use Rattle.wb_protocol.specs.Histories.Text.{history_text}
-use Rattle.wb_sessions.specs.Upgrading.{loaded, HasNoBook, IsUpgraded}
-use Rattle.wb_sessions.proofs.Loading.{prints}
+use Rattle.std.proofs.Common.{◌≡◌, ◌∙◌, inr, rules, subst, sym}
+use Rattle.wb_text.specs.Texts.Books.{IsBookText}
 use Rattle.wb_sessions.specs.Reasons.{WhyNoBook}
+use Rattle.wb_sessions.specs.Upgrading.{HasNoBook, UpgradesBook}
 use Rattle.wb_sessions.proofs.Opening.{of_none, of_some}
-use Rattle.wb_sessions.proofs.Telling.{no_print_of_1, or_fault}
+use Rattle.wb_sessions.proofs.Telling.{no_book_of_1, or_fault, upgrades_book}
 use Rattle.wb_sessions.proofs.upgrading.upgrade_with.Goals as goal
+
+pub upgrade_text-requires : goal.upgrade_text-requires
+upgrade_text-requires g c =
+    let bytes = c.deref.result.now in
+    let some = of_some c.in-Ok-Some.field-0 (λ t. (t.now ≡ bytes) × IsBookText bytes) c.in-Ok-Some.text (search rules) c.in-Ok-Some.ensures.some in
+    subst IsBookText (sym some.0) some.1
 
 pub returns-in-Ok-Some-clause-upgrades : goal.returns-in-Ok-Some-clause-upgrades
 returns-in-Ok-Some-clause-upgrades g c =
-    let told = c.tell.ensures.told in
     let bytes = c.deref.result.now in
     let read = c.in-Ok.bytes.items in
-    let some = of_some c.in-Ok-Some.field-0 (λ t. IsUpgraded bytes × (string_bytes t ≡ history_text (loaded bytes))) c.in-Ok-Some.text (search rules)
-    c.in-Ok-Some.ensures.some in (
+    let some = of_some c.in-Ok-Some.field-0 (λ t. (t.now ≡ bytes) × IsBookText bytes) c.in-Ok-Some.text (search rules) c.in-Ok-Some.ensures.some in
+    let done = c.upgrade_text.ensures.upgrades in (
       read,
       c.in-Ok.ensures.ok.0,
-      (
-        told.0,
-        told.1,
-        inl (
-          subst IsUpgraded c.deref.ensures.value some.0,
-          prints read bytes (string_bytes c.in-Ok-Some.text) c.as_str.result.now told.0 c.tell.result c.deref.ensures.value some.1 c.as_str.ensures.value
-              told.2,
-        ),
-      ),
+      (done.0, done.1, upgrades_book read c.upgrade_text.result done.0 (subst (λ t. UpgradesBook t c.upgrade_text.result done.0) (some.0 ∙ c.deref.ensures.value) done.2)),
     )
 
 pub returns-in-Ok-None-clause-upgrades : goal.returns-in-Ok-None-clause-upgrades
@@ -45,5 +41,5 @@ returns-in-Ok-None-clause-why g c one =
 
 pub returns-in-Ok-Some-clause-why : goal.returns-in-Ok-Some-clause-why
 returns-in-Ok-Some-clause-why g c one =
-    let told = c.tell.ensures.told in
-    absurd (no_print_of_1 _ _ told.0 one told.2)
+    let done = c.upgrade_text.ensures.upgrades in
+    absurd (no_book_of_1 _ _ done.0 one done.2)
