@@ -1,5 +1,5 @@
 -- Texts that are sent one after another.
-use Rattle.std.proofs.Common.{◌≡◌, ℕ, List, Option, Result, Ok, Err, is_err, true, false, true≢false, inl, inr, refl, OnOk, OnErr, ◌<◌, ◌++◌, length, take, drop, sym, ap, ◌∙◌, subst, append_assoc, take-append-drop}
+use Rattle.std.proofs.Common.{◌≡◌, ℕ, List, Option, Result, Ok, Err, is_err, true, true≢false, inl, inr, refl, OnOk, OnErr, ◌<◌, ◌++◌, length, take, drop, sym, ap, ◌∙◌, append_assoc, take-append-drop}
 use lib.Seq.{take-append_seam}
 use Rattle.std.proofs.KnownBytes.{Appends-trans}
 use Rattle.std.specs.Io.KnownBytes.{Appends}

@@ -1,4 +1,4 @@
-use Rattle.std.proofs.Common.{◌≡◌, ◌∙◌, None, inl, refl, subst}
+use Rattle.std.proofs.Common.{◌∙◌, None, inl, refl, subst}
 use Rattle.selective_undo.specs.History.{replay}
 use Rattle.wb_history.specs.Past.{meant}
 use Rattle.wb_protocol.specs.Encoding.Text.{objects_text}
@@ -13,7 +13,7 @@ pub unreachable-requires : goal.unreachable-requires
 unreachable-requires g c =
     let text = c.args.text.now in
     let lines = objects_text (replay (meant (loaded text))) in
-    none_some lines None refl (c.in-None.ensures lines (made_text text c.requires))
+    none_some lines None refl (c.in_default.ensures lines (made_text text c.requires))
 
 pub returns-in-Ok-clause-upgrades : goal.returns-in-Ok-clause-upgrades
 returns-in-Ok-clause-upgrades g c =

@@ -1,19 +1,21 @@
-use Rattle.std.proofs.Common.{◌≡◌, ◌⊎◌, ◌∙◌, inl, inr, List, ℕ, rules, subst}
+use Rattle.std.proofs.Common.{◌≡◌, ◌∙◌, inr, rules, subst, sym}
 use Rattle.wb_text.specs.Texts.Books.{IsBookText}
 use Rattle.wb_sessions.specs.Reasons.{WhyNoBook}
-use Rattle.wb_sessions.specs.Upgrading.{HasNoBook, Upgrades, UpgradesBook}
+use Rattle.wb_sessions.specs.Upgrading.{HasNoBook, UpgradesBook}
 use Rattle.wb_sessions.proofs.Opening.{of_none, of_some}
 use Rattle.wb_sessions.proofs.Telling.{no_book_of_1, or_fault, upgrades_book}
 use Rattle.wb_sessions.proofs.upgrading.upgrade_with.Goals as goal
 
 pub upgrade_text-requires : goal.upgrade_text-requires
-upgrade_text-requires g c = ?
+upgrade_text-requires g c =
+    let bytes = c.deref.result.now in
+    let some = of_some c.in-Ok-Some.field-0 (λ t. (t.now ≡ bytes) × IsBookText bytes) c.in-Ok-Some.text (search rules) c.in-Ok-Some.ensures.some in
+    subst IsBookText (sym some.0) some.1
 
 pub returns-in-Ok-Some-clause-upgrades : goal.returns-in-Ok-Some-clause-upgrades
 returns-in-Ok-Some-clause-upgrades g c =
     let bytes = c.deref.result.now in
     let read = c.in-Ok.bytes.items in
-    let text = c.in-Ok-Some.text.now in
     let some = of_some c.in-Ok-Some.field-0 (λ t. (t.now ≡ bytes) × IsBookText bytes) c.in-Ok-Some.text (search rules) c.in-Ok-Some.ensures.some in
     let done = c.upgrade_text.ensures.upgrades in (
       read,
