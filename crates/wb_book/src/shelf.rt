@@ -18,7 +18,8 @@ use std::marker::Model;
 use std::mem;
 use wb_arrays::{MoveErr, Mover};
 use wb_cells::{
-    AnyIndex, Cell, Changes, Delta, Inverse, Name, Pattern, StoredCells, Value, members_of,
+    AnyIndex, Cell, Changes, Delta, Inverse, MemberWalk, Name, Pattern, StoredCells, Value,
+    members_of,
 };
 use wb_elements::Elements;
 use wb_range::NoMemory;
@@ -96,14 +97,14 @@ impl Book {
         }
     }
 
-    /// The members of the sparse or associative domain of a name, ascending; `NoMemory` where none is left. No cell is made of
-    /// them.
-    pub fn members(&self, alloc: Global, domain: &Name) -> Result<Vec<AnyIndex>, NoMemory>
-        ensures { IfOk result (λ v. v.items ≡ members self.now.cells domain.now) }
+    /// The members of the sparse or associative domain of a name, ascending, told one after another. No list is made of them,
+    /// and it takes no memory.
+    pub fn members<'a>(&'a self, domain: &Name) -> MemberWalk<'a>
+        ensures { result ≡ members self.now.cells domain.now }
     {
         // For the proof: the invariant, which speaks of the arrays too.
         let _ = &self.arrays;
-        members_of(alloc, &self.cells, domain)
+        members_of(&self.cells, domain)
     }
 
     /// The elements of the array of a name, each after its index, in the order of the indices; `NoMemory` where none is

@@ -11,6 +11,7 @@ pub mod Reads
 pub mod Schema
 pub mod WellFormed
 pub mod MemberSets
+pub mod MemberWalks
 pub mod Stored
 pub mod Locales
 pub mod Readers

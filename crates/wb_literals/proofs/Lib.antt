@@ -4,6 +4,7 @@ pub mod DigitsBack
 pub mod PrintedRange
 pub mod Spelled
 pub mod Texts
+pub mod ShortTexts
 pub mod Listing
 pub mod TokenLemmas
 pub mod Exact

@@ -1,5 +1,5 @@
 -- Sets at the front of a text.
-use Rattle.std.specs.Prelude.{ℕ, zero, suc, ◌+◌, ℤ, List, [], ◌∷◌, length, take, drop, codes, Bool, ◌&&◌, nat_eq, if◌then◌else◌, Option, Some, None, option_map}
+use Rattle.std.specs.Prelude.{ℕ, zero, suc, ◌+◌, ℤ, List, [], ◌∷◌, length, take, drop, codes, Bool, ◌&&◌, nat_eq, nat_le, if◌then◌else◌, Option, Some, None, option_map}
 use Rattle.std.specs.Prelude.{option_and_then, position}
 use Rattle.std.specs.Option.{option_map_or}
 use Rattle.std.specs.Str.Lossy.{utf8_valid_len}
@@ -62,11 +62,23 @@ quoted_at bytes n = option_map (λ t. (t, drop (n + 1) bytes)) (label_of (take n
 abbrev pub text_at : List ℕ → Option (List ℕ × List ℕ)
 text_at bytes = option_and_then (λ inside. option_and_then (quoted_at inside) (position is_quote inside)) (after (codes "\"") bytes)
 
+-- a text of at most 23 bytes
+abbrev pub short_of : List ℕ → Option (List ℕ)
+short_of text = if nat_le (length text) 23 then Some text else None
+
+-- a short text in quotes
+abbrev pub short_text_at : List ℕ → Option (List ℕ × List ℕ)
+short_text_at bytes = option_and_then (λ x. option_map (λ t. (t, x.1)) (short_of x.0)) (text_at bytes)
+
 -- indices like the first one
 abbrev pub indices_at : IndexLiteral → List ℕ → Option (Items × List ℕ)
 indices_at (Integer i) bytes = option_map (λ x. (integers x.0, x.1)) (listed_at integer_at bytes)
 indices_at (Pair i j) bytes = option_map (λ x. (pairs x.0, x.1)) (listed_at pair_at bytes)
 indices_at (Triple i j k) bytes = option_map (λ x. (triples x.0, x.1)) (listed_at triple_at bytes)
+
+-- texts of at most 23 bytes each
+abbrev pub short_texts_at : List ℕ → Option (Items × List ℕ)
+short_texts_at bytes = option_map (λ x. (texts x.0, x.1)) (listed_at short_text_at bytes)
 
 abbrev pub texts_at : List ℕ → Option (Items × List ℕ)
 texts_at bytes = option_map (λ x. (texts x.0, x.1)) (listed_at text_at bytes)

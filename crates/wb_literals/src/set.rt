@@ -2,8 +2,8 @@
 ghost use Rattle.std.specs.Prelude.{◌≡◌, ◌↔◌, ◌+◌, ◌-◌, ◌≤◌, ◌<◌, ℕ, ℤ, List, length, take, drop, position, Option, Some, None, IfOk, IfSome, codes};
 ghost use Rattle.std.specs.Prelude.{option_map, option_and_then};
 ghost use Rattle.wb_literals.specs.Integer.{integer_at};
-ghost use Rattle.wb_literals.specs.Set.{Items, items_at, listed_at, as_pair, pair_at, as_triple, triple_at, label_of, is_quote, quoted_at, text_at, indices_at};
-ghost use Rattle.wb_literals.specs.Set.{texts_at, filled_at, set_at, set_literal_of};
+ghost use Rattle.wb_literals.specs.Set.{Items, items_at, listed_at, as_pair, pair_at, as_triple, triple_at, label_of, is_quote, quoted_at, text_at, short_of, short_text_at, indices_at};
+ghost use Rattle.wb_literals.specs.Set.{short_texts_at, texts_at, filled_at, set_at, set_literal_of};
 ghost use Rattle.wb_literals.specs.Said.{items};
 ghost use Rattle.wb_literals.specs.Grammar.{IsSet};
 
@@ -11,7 +11,7 @@ use crate::index::{IndexLiteral, index_at};
 use crate::integer::integer_at;
 use crate::tokens::{after, after_token, close_at, comma_at};
 use std::alloc::{AllocError, Global};
-use wb_sets::Label;
+use wb_sets::{Label, ShortLabel};
 
 /// A set as it is spelled: its items in the order of the text, repeats included.
 #[derive(Drop)]
@@ -24,7 +24,9 @@ pub enum SetLiteral {
     Pairs(Vec<[i64; 2]>),
     /// Indices of rank 3
     Triples(Vec<[i64; 3]>),
-    /// Texts in quotes
+    /// Texts in quotes, of at most 23 bytes each
+    ShortTexts(Vec<ShortLabel>),
+    /// Texts in quotes, one of them longer
     Texts(Vec<Label>),
 }
 
@@ -73,6 +75,27 @@ impl Item for Label {
     fn item_at(bytes: &[u8]) -> Option<(Label, &[u8])> {
         text_at(bytes)
     }
+}
+
+impl Item for ShortLabel {
+    ghost reads = { short_text_at };
+
+    fn item_at(bytes: &[u8]) -> Option<(ShortLabel, &[u8])> {
+        match text_at(bytes) {
+            Some((text, rest)) => match short_of(&text) {
+                Some(short) => Some((short, rest)),
+                None => None,
+            },
+            None => None,
+        }
+    }
+}
+
+// The text in less room, if it is short.
+fn short_of(text: &Label) -> Option<ShortLabel>
+    ensures { result ≡ short_of text.now }
+{
+    ShortLabel::of(text)
 }
 
 fn as_pair(index: IndexLiteral) -> Option<[i64; 2]>
@@ -159,16 +182,19 @@ pub(crate) fn items_at<T: Item>(
     Ok(None)
 }
 
-// One or more items and the closing brace.
+// One or more items and the closing brace, in no more room than they take.
 fn listed_at<T: Item>(alloc: Global, bytes: &[u8]) -> Result<Option<(Vec<T>, &[u8])>, AllocError>
     ensures { IfOk result (λ r. option_map (λ x. (x.0.items, x.1.now)) r ≡ listed_at T.reads bytes.now) }
 {
-    let (items, rest) = match items_at(alloc, bytes)? {
+    let (mut items, rest) = match items_at(alloc, bytes)? {
         Some(read) => read,
         None => return Ok(None),
     };
     match close_at(b"}", rest) {
-        Some(rest) => Ok(Some((items, rest))),
+        Some(rest) => {
+            items.shrink_to_fit();
+            Ok(Some((items, rest)))
+        }
         None => Ok(None),
     }
 }
@@ -197,11 +223,31 @@ fn indices_at(
     }
 }
 
-fn texts_at(alloc: Global, bytes: &[u8]) -> Result<Option<(SetLiteral, &[u8])>, AllocError>
+// Short texts.
+fn short_texts_at(alloc: Global, bytes: &[u8]) -> Result<Option<(SetLiteral, &[u8])>, AllocError>
+    ensures { IfOk result (λ r. option_map (λ x. (items x.0, x.1.now)) r ≡ short_texts_at bytes.now) }
+{
+    let read = listed_at(alloc, bytes)?;
+    Ok(read.map(|(list, rest)| (SetLiteral::ShortTexts(list), rest)))
+}
+
+// Texts of any length.
+fn any_texts_at(alloc: Global, bytes: &[u8]) -> Result<Option<(SetLiteral, &[u8])>, AllocError>
     ensures { IfOk result (λ r. option_map (λ x. (items x.0, x.1.now)) r ≡ texts_at bytes.now) }
 {
     let read = listed_at(alloc, bytes)?;
     Ok(read.map(|(list, rest)| (SetLiteral::Texts(list), rest)))
+}
+
+// Texts are read as short ones, in less room; where one of them is longer, all are read anew.
+#[tactic(auto, using(crate::proofs::ShortTexts::texts_short))]
+fn texts_at(alloc: Global, bytes: &[u8]) -> Result<Option<(SetLiteral, &[u8])>, AllocError>
+    ensures { IfOk result (λ r. option_map (λ x. (items x.0, x.1.now)) r ≡ texts_at bytes.now) }
+{
+    match short_texts_at(alloc, bytes)? {
+        Some(read) => Ok(Some(read)),
+        None => any_texts_at(alloc, bytes),
+    }
 }
 
 // One or more items and the closing brace.

@@ -11,7 +11,9 @@ ghost use Rattle.wb_text.specs.Lines.{members, indices_in, number_in, element_at
 
 use std::alloc::{AllocError, Global};
 use wb_book::Book;
-use wb_cells::{AnyIndex, AnyLayout, AnyRect, Cell, Kind, Name, Pattern, Value, object_of};
+use wb_cells::{
+    AnyIndex, AnyLayout, AnyRect, Cell, Kind, MemberWalk, Name, Pattern, Value, object_of,
+};
 use wb_range::NoMemory;
 
 fn objects_in(alloc: Global, shown: &[(Cell, Value)]) -> Result<Vec<Name>, AllocError>
@@ -34,13 +36,6 @@ pub(crate) fn objects(alloc: Global, book: &Book) -> Result<Vec<Name>, NoMemory>
 {
     let shown = book.seen(alloc, &Pattern::Objects)?;
     Ok(objects_in(alloc, &shown)?)
-}
-
-/// The indices of a sparse or associative domain, ascending.
-pub(crate) fn members(alloc: Global, book: &Book, domain: &Name) -> Result<Vec<AnyIndex>, NoMemory>
-    ensures { IfOk result (λ v. v.items ≡ members book.now.cells domain.now) }
-{
-    book.members(alloc, domain)
 }
 
 /// The ranges of a rectangular domain.
@@ -94,18 +89,18 @@ fn element_at(book: &Book, array: &Name, index: &AnyIndex) -> Option<i64>
     number_in(book.get(&Cell::Element(*array, *index)))
 }
 
-// The elements of an array at the indices, in their order.
-fn elements_at(
+// The elements of an array at the members that are left, in their order.
+fn elements_along(
     alloc: Global,
     book: &Book,
     array: &Name,
-    indices: &[AnyIndex],
+    members: &mut MemberWalk<'_>,
 ) -> Result<Vec<i64>, NoMemory>
-    ensures { IfOk result (λ v. v.items ≡ elements_at book.now.cells array.now indices.now) }
+    ensures { IfOk result (λ v. v.items ≡ elements_at book.now.cells array.now members.old) }
 {
     let mut elements = Vec::new(alloc);
-    for index in indices {
-        if let Some(element) = element_at(book, array, index) {
+    while let Some(index) = members.next() {
+        if let Some(element) = element_at(book, array, &index) {
             elements.push(element)?;
         }
     }
@@ -162,8 +157,7 @@ fn elements_at_members(
 ) -> Result<Vec<i64>, NoMemory>
     ensures { IfOk result (λ v. v.items ≡ elements_at book.now.cells array.now (members book.now.cells domain.now)) }
 {
-    let indices = members(alloc, book, domain)?;
-    elements_at(alloc, book, array, &indices)
+    elements_along(alloc, book, array, &mut book.members(domain))
 }
 
 /// The elements of an array over a domain of the kind, in the order of the domain's indices.

@@ -4,7 +4,7 @@ ghost use Rattle.wb_cells.specs.declared.cells.kind.DomainKind.TheVariants.{Rect
 ghost use Rattle.wb_text.specs.Lines.{members, indices_in, elements_at, implicit_in, sparse_line, associative_line, array_line, domain_line, text_of_object};
 ghost use Rattle.wb_text.specs.Lines.{object_line};
 
-use crate::books::{elements_of, implicit_in, mapping_at, members, ranges_at};
+use crate::books::{elements_of, implicit_in, mapping_at, ranges_at};
 use std::alloc::Global;
 use wb_book::Book;
 use wb_cells::{AnyLayout, Cell, DomainKind, KeyType, Kind, Name, Value};
@@ -30,23 +30,16 @@ fn push_rectangular(
 }
 
 // The line of a sparse domain of the book.
-fn push_sparse(
-    alloc: Global,
-    out: &mut String,
-    book: &Book,
-    domain: &Name,
-    parent: &Name,
-) -> Result<(), NoMemory>
+fn push_sparse(out: &mut String, book: &Book, domain: &Name, parent: &Name) -> Result<(), NoMemory>
     ensures { OnOk result (string_bytes out.new ≡ string_bytes out.old ++ sparse_line domain.now parent.now (members book.now.cells domain.now)) }
 {
-    let indices = members(alloc, book, domain)?;
-    push_sparse_line(out, domain, parent, &indices)?;
+    let mut members = book.members(domain);
+    push_sparse_line(out, domain, parent, &mut members)?;
     Ok(())
 }
 
 // The line of an associative domain of the book.
 fn push_associative(
-    alloc: Global,
     out: &mut String,
     book: &Book,
     domain: &Name,
@@ -54,8 +47,8 @@ fn push_associative(
 ) -> Result<(), NoMemory>
     ensures { OnOk result (string_bytes out.new ≡ string_bytes out.old ++ associative_line domain.now key (members book.now.cells domain.now)) }
 {
-    let indices = members(alloc, book, domain)?;
-    push_associative_line(out, domain, key, &indices)?;
+    let mut members = book.members(domain);
+    push_associative_line(out, domain, key, &mut members)?;
     Ok(())
 }
 
@@ -71,8 +64,8 @@ fn push_domain(
 {
     match kind {
         DomainKind::Rectangular(rank) => push_rectangular(alloc, out, book, domain, rank),
-        DomainKind::Sparse(parent, _) => push_sparse(alloc, out, book, domain, &parent),
-        DomainKind::Associative(key) => push_associative(alloc, out, book, domain, key),
+        DomainKind::Sparse(parent, _) => push_sparse(out, book, domain, &parent),
+        DomainKind::Associative(key) => push_associative(out, book, domain, key),
     }
 }
 

@@ -3,11 +3,11 @@ ghost use Rattle.std.specs.Prelude.{◌≡◌, ◌++◌, [], OnOk, string_bytes,
 ghost use Rattle.wb_text.specs.Literals.{rectangle_text};
 ghost use Rattle.wb_text.specs.Lines.{rectangular_line, sparse_line, type_text, associative_line, implicit_text, array_line};
 
-use crate::literals::{push_list, push_set};
+use crate::literals::{push_list, push_member_set};
 use crate::mappings::{push_any_layout, push_any_rect};
 use std::alloc::{AllocError, Global};
 use std::fmt::Write;
-use wb_cells::{AnyIndex, AnyLayout, AnyRect, KeyType, Name};
+use wb_cells::{AnyLayout, AnyRect, KeyType, MemberWalk, Name};
 
 // The ranges of a rectangular domain in braces.
 fn push_ranges(alloc: Global, out: &mut String, ranges: &Option<AnyRect>) -> Result<(), AllocError>
@@ -37,19 +37,19 @@ pub fn push_rectangular_line(
     out.push_str("\n")
 }
 
-/// The line of a sparse domain.
+/// The line of a sparse domain of the members that are left.
 pub fn push_sparse_line(
     out: &mut String,
     domain: &Name,
     parent: &Name,
-    indices: &[AnyIndex],
+    members: &mut MemberWalk<'_>,
 ) -> Result<(), AllocError>
-    ensures { OnOk result (string_bytes out.new ≡ string_bytes out.old ++ sparse_line domain.now parent.now indices.now) }
+    ensures { OnOk result (string_bytes out.new ≡ string_bytes out.old ++ sparse_line domain.now parent.now members.old) }
 {
     let name = domain.as_str();
     let within = parent.as_str();
     write!(out, "sparse {name} of {within} ")?;
-    push_set(out, indices)?;
+    push_member_set(out, members)?;
     out.push_str("\n")
 }
 
@@ -62,19 +62,19 @@ fn type_text(key: KeyType) -> &'static str
     }
 }
 
-/// The line of an associative domain.
+/// The line of an associative domain of the members that are left.
 pub fn push_associative_line(
     out: &mut String,
     domain: &Name,
     key: KeyType,
-    indices: &[AnyIndex],
+    members: &mut MemberWalk<'_>,
 ) -> Result<(), AllocError>
-    ensures { OnOk result (string_bytes out.new ≡ string_bytes out.old ++ associative_line domain.now key indices.now) }
+    ensures { OnOk result (string_bytes out.new ≡ string_bytes out.old ++ associative_line domain.now key members.old) }
 {
     let name = domain.as_str();
     let kind = type_text(key);
     write!(out, "assoc {name} of {kind} ")?;
-    push_set(out, indices)?;
+    push_member_set(out, members)?;
     out.push_str("\n")
 }
 

@@ -7,7 +7,7 @@ ghost use Rattle.wb_text.specs.Literals.{further, text_of_range, index_text};
 use crate::literals::{push_index, push_range};
 use std::alloc::AllocError;
 use std::fmt::Write;
-use wb_cells::AnyIndex;
+use wb_cells::{AnyIndex, MemberWalk};
 use wb_range::Range;
 
 // Integers, each after a comma.
@@ -77,6 +77,30 @@ pub(crate) fn push_indices(out: &mut String, xs: &[AnyIndex]) -> Result<(), Allo
         [first, rest @ ..] => {
             push_index(out, first)?;
             push_more_indices(out, rest)
+        }
+    }
+}
+
+// The members that are left, each after a comma.
+fn push_more_members(out: &mut String, members: &mut MemberWalk<'_>) -> Result<(), AllocError>
+    ensures { OnOk result (string_bytes out.new ≡ string_bytes out.old ++ flat_map (further index_text) members.old) }
+{
+    while let Some(index) = members.next() {
+        out.push_str(", ")?;
+        push_index(out, &index)?;
+    }
+    Ok(())
+}
+
+/// The members that are left, separated by commas.
+pub(crate) fn push_members(out: &mut String, members: &mut MemberWalk<'_>) -> Result<(), AllocError>
+    ensures { OnOk result (string_bytes out.new ≡ string_bytes out.old ++ join_by index_text (codes ", ") members.old) }
+{
+    match members.next() {
+        None => Ok(()),
+        Some(first) => {
+            push_index(out, &first)?;
+            push_more_members(out, members)
         }
     }
 }

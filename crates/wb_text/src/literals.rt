@@ -2,10 +2,10 @@
 ghost use Rattle.std.specs.Prelude.{◌≡◌, ◌++◌, OnOk, string_bytes};
 ghost use Rattle.wb_text.specs.Literals.{written_stride, text_of_range, rectangle_text, point_text, index_text, set_text, integers_text};
 
-use crate::lists::{push_indices, push_integers, push_ranges};
+use crate::lists::{push_indices, push_integers, push_members, push_ranges};
 use std::alloc::AllocError;
 use std::fmt::Write;
-use wb_cells::{AnyIndex, Index};
+use wb_cells::{AnyIndex, Index, MemberWalk};
 use wb_range::Range;
 
 // The stride, if it is written.
@@ -70,6 +70,18 @@ pub fn push_set(out: &mut String, indices: &[AnyIndex]) -> Result<(), AllocError
 {
     out.push_str("{")?;
     push_indices(out, indices)?;
+    out.push_str("}")
+}
+
+/// The text of the set of the members that are left. No list is made of them.
+pub(crate) fn push_member_set(
+    out: &mut String,
+    members: &mut MemberWalk<'_>,
+) -> Result<(), AllocError>
+    ensures { OnOk result (string_bytes out.new ≡ string_bytes out.old ++ set_text members.old) }
+{
+    out.push_str("{")?;
+    push_members(out, members)?;
     out.push_str("}")
 }
 

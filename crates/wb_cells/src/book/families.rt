@@ -7,7 +7,8 @@ ghost use Rattle.wb_cells.specs.Families.{Begins, AreNamed};
 ghost use Rattle.wb_cells.specs.declared.cells.pattern.Pattern.TheVariants.{One, Members};
 ghost use Rattle.wb_cells.specs.Readers.{seen, member_in, members, element_in, elements};
 
-use crate::book::members::{count_members, list_members, nth_member};
+use crate::book::member_walk::MemberWalk;
+use crate::book::members::{count_members, list_members, nth_member, walk_members};
 use crate::book::stored::{StoredCells, cells_of};
 use crate::cells::cell::Cell;
 use crate::cells::pattern::Pattern;
@@ -100,18 +101,11 @@ pub fn seen(
     }
 }
 
-/// The members of a sparse or associative domain, ascending, 72 bytes each: no cell is made of them.
-pub fn members_of(
-    alloc: Global,
-    cells: &StoredCells,
-    domain: &Name,
-) -> Result<Vec<AnyIndex>, NoMemory>
-    ensures { IfOk result (λ v. v.items ≡ members (state_of cells.now) domain.now) }
+/// The members of a sparse or associative domain, ascending, told one after another. It takes no memory.
+pub fn members_of<'a>(cells: &'a StoredCells, domain: &Name) -> MemberWalk<'a>
+    ensures { result ≡ members (state_of cells.now) domain.now }
 {
-    match list_members(alloc, &cells.members, domain) {
-        Ok(indices) => Ok(indices),
-        Err(_) => Err(NoMemory),
-    }
+    walk_members(&cells.members, domain)
 }
 
 /// How many members a sparse or associative domain has.

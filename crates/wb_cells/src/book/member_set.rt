@@ -10,6 +10,7 @@ ghost use Rattle.wb_cells.specs.Cells.{index_cmp, is_same_index};
 ghost use Rattle.wb_cells.specs.WellFormed.{has};
 ghost use Rattle.wb_cells.specs.MemberSets.{listed, is_of_form, IsKept};
 
+use crate::book::member_walk::{MemberWalk, WalkForm};
 use crate::values::index::AnyIndex;
 use crate::values::key::AsIndex;
 use std::alloc::{AllocError, Global};
@@ -400,5 +401,20 @@ impl MemberSet {
             MemberForm::Text(set) => list_in(alloc, set),
             MemberForm::Mixed(set) => list_in(alloc, set),
         }
+    }
+
+    /// A walk over the indices, ascending. It takes no memory.
+    pub(crate) fn walk(&self) -> MemberWalk<'_>
+        ensures { result ≡ self.now }
+    {
+        let form = match &self.form {
+            MemberForm::Line(set) => WalkForm::Line(set.iter()),
+            MemberForm::Plane(set) => WalkForm::Plane(set.iter()),
+            MemberForm::Solid(set) => WalkForm::Solid(set.iter()),
+            MemberForm::Short(set) => WalkForm::Short(set.iter()),
+            MemberForm::Text(set) => WalkForm::Text(set.iter()),
+            MemberForm::Mixed(set) => WalkForm::Mixed(set.iter()),
+        };
+        MemberWalk { form }
     }
 }

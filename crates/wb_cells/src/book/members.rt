@@ -9,6 +9,7 @@ ghost use Rattle.wb_cells.specs.Cells.{is_same_name, is_same_index};
 ghost use Rattle.wb_cells.specs.Stored.{indices_in, is_member, AscendEach};
 
 use crate::book::member_set::MemberSet;
+use crate::book::member_walk::MemberWalk;
 use crate::values::index::AnyIndex;
 use crate::values::name::Name;
 use std::alloc::{AllocError, Global};
@@ -136,5 +137,15 @@ pub(crate) fn list_members(
     match sets.get(domain) {
         Some(set) => set.list(alloc),
         None => Ok(Vec::new(alloc)),
+    }
+}
+
+/// A walk over the members of a domain, ascending.
+pub(crate) fn walk_members<'a>(sets: &'a BTreeMap<Name, MemberSet>, domain: &Name) -> MemberWalk<'a>
+    ensures { result ≡ unwrap_or (indices_in sets.now.entries domain.now) [] }
+{
+    match sets.get(domain) {
+        Some(set) => set.walk(),
+        None => MemberWalk::nothing(),
     }
 }

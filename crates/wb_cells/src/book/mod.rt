@@ -3,6 +3,7 @@
 pub(crate) mod families;
 pub(crate) mod locales;
 pub(crate) mod member_set;
+pub(crate) mod member_walk;
 pub(crate) mod members;
 pub(crate) mod readers;
 pub mod store;

@@ -7,7 +7,7 @@ ghost use Rattle.wb_literals.specs.Limits.Literals.{listed_in};
 use crate::SetLiteral;
 use std::alloc::{AllocError, Global};
 use wb_cells::{AnyIndex, Index, Point};
-use wb_sets::Label;
+use wb_sets::{Label, ShortLabel};
 
 fn of_integer(integer: &i64) -> AnyIndex
     ensures { result ≡ point_index (integer.now ∷ []) }
@@ -87,6 +87,19 @@ fn texts(alloc: Global, listed: &[Label]) -> Result<Vec<AnyIndex>, AllocError>
         .collect(alloc)
 }
 
+fn short_texts(alloc: Global, listed: &[ShortLabel]) -> Result<Vec<AnyIndex>, AllocError>
+    ensures { IfOk result (λ v. v.items ≡ map text_index listed.now) }
+{
+    listed
+        .iter()
+        .map(
+            |text: &ShortLabel| -> AnyIndex
+                ensures { result ≡ text_index text.now }
+            { of_text(&text.label()) },
+        )
+        .collect(alloc)
+}
+
 /// The indices that a set lists, in the order of its text, repeats included.
 pub fn listed_in(alloc: Global, set: &SetLiteral) -> Result<Vec<AnyIndex>, AllocError>
     ensures { IfOk result (λ v. v.items ≡ listed_in (items set.now)) }
@@ -96,6 +109,7 @@ pub fn listed_in(alloc: Global, set: &SetLiteral) -> Result<Vec<AnyIndex>, Alloc
         SetLiteral::Integers(listed) => integers(alloc, listed),
         SetLiteral::Pairs(listed) => pairs(alloc, listed),
         SetLiteral::Triples(listed) => triples(alloc, listed),
+        SetLiteral::ShortTexts(listed) => short_texts(alloc, listed),
         SetLiteral::Texts(listed) => texts(alloc, listed),
     }
 }
@@ -110,6 +124,7 @@ impl SetLiteral {
             SetLiteral::Integers(listed) => listed.len(),
             SetLiteral::Pairs(listed) => listed.len(),
             SetLiteral::Triples(listed) => listed.len(),
+            SetLiteral::ShortTexts(listed) => listed.len(),
             SetLiteral::Texts(listed) => listed.len(),
         }
     }
@@ -123,6 +138,7 @@ impl SetLiteral {
             SetLiteral::Integers(listed) => Some(of_integer(listed.get(place)?)),
             SetLiteral::Pairs(listed) => Some(of_pair(listed.get(place)?)),
             SetLiteral::Triples(listed) => Some(of_triple(listed.get(place)?)),
+            SetLiteral::ShortTexts(listed) => Some(of_text(&listed.get(place)?.label())),
             SetLiteral::Texts(listed) => Some(of_text(listed.get(place)?)),
         }
     }

@@ -4,12 +4,10 @@ use Rattle.wb_cells.specs.declared.cells.pattern.Pattern.TheVariants.{Members}
 use Rattle.wb_cells.specs.Readers.{member_in, members}
 use Rattle.wb_book.proofs.Stored.{seen-stored, members_stored}
 use Rattle.wb_book.proofs.Answered.{answered}
-use Rattle.wb_book.proofs.Seen.{one_ok}
 use Rattle.wb_book.proofs.shelf.Book.members.Goals as goal
 
 pub returns : goal.returns
 returns c =
     let d = c.args.domain.now in
-    one_ok c.members_of.result _ _ c.members_of.ensures (λ v is.
-    rw (← c.self.view_is) (is ∙ answered (λ s. members s d) (λ s. ap (filter_map member_in) (seen-stored s (Members d) (members_stored d)))
-    c.self.inside.cells c.self.inside.arrays c.self.invariant))
+    rw (← c.self.view_is) (c.members_of.ensures ∙ answered (λ s. members s d) (λ s. ap (filter_map member_in) (seen-stored s (Members d) (members_stored d)))
+    c.self.inside.cells c.self.inside.arrays c.self.invariant)
