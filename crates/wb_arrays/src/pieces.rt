@@ -164,14 +164,14 @@ impl<D: Domain, M: Mapping<Index = D::Index>> Pieces<D, M> {
     /// The element at `index`, as by `get`, and the place to pass for the index
     /// after it: such a call makes no search where the index stands in its
     /// piece at the place that was passed, or at the next one.
-    pub fn get_near(&self, index: D::Index, near: usize) -> (Option<i64>, usize)
+    pub fn get_from(&self, index: D::Index, near: usize) -> (Option<i64>, usize)
         ensures { result.0 ≡ value_at D.Index.cmp self.now.0 index }
     {
         value_near(self.list_of(self.mapping().locale_of(index)), index, near)
     }
 
     /// Replaces the element at `index`, if there is one, and gives the place
-    /// to pass for the index after it, as `get_near` does.
+    /// to pass for the index after it, as `get_from` does.
     pub fn set_near(&mut self, index: D::Index, value: i64, near: usize) -> usize
         ensures elements { self.new.0 ≡ set_value (is_at (D.Index.cmp index)) self.old.0 value }
         ensures mapping { self.new.1 ≡ self.old.1 }
@@ -251,7 +251,7 @@ impl<D: Domain, M: Mapping<Index = D::Index>> Store for Pieces<D, M> {
     }
 
     fn get(&self, index: D::Index) -> Option<i64> {
-        self.get_near(index, 0).0
+        self.get_from(index, 0).0
     }
 
     fn set(&mut self, index: D::Index, value: i64) -> Result<i64, OutOfDomain> {

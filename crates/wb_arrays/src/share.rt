@@ -12,7 +12,7 @@ use wb_range::{Key, Mapping, NoMemory};
 
 /// The pieces of a whole array by a team: each worker passes the gate and makes
 /// the pieces of its own locales, and all of them lie side by side.
-pub fn pieces_by_team<
+pub(crate) fn pieces_by_team<
     R: Threads + Sync,
     G: Gate + Sync,
     I: Key + Send + Sync,

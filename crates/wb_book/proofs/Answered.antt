@@ -1,8 +1,6 @@
 -- What the stored cells answer is what the workbook answers.
 use Rattle.std.proofs.Common.{◌≡◌, sym, ap, subst, ◌∙◌}
 use Rattle.std.specs.BTreeMap.{BTreeMap}
-use Rattle.wb_cells.specs.declared.cells.cell.Cell.{Cell}
-use Rattle.wb_cells.specs.declared.cells.value.Value.{Value}
 use Rattle.wb_cells.specs.Cells.{Stored, Name, Cells, state_of}
 use Rattle.wb_cells.specs.Families.{AreNamed}
 use Rattle.wb_book.specs.Stored.{stored_cells}

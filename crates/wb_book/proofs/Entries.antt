@@ -17,9 +17,9 @@ use Rattle.wb_cells.specs.declared.changes.run.ChangeRun.{ChangeRun}
 use Rattle.wb_cells.specs.declared.cells.cell.Cell.{Cell}
 use Rattle.wb_cells.specs.declared.cells.cell.Cell.TheVariants.{Object, Element}
 use Rattle.wb_cells.specs.declared.cells.value.Value.{Value}
-use Rattle.wb_cells.specs.declared.changes.row.Row.{Row}
-use Rattle.wb_cells.specs.declared.changes.row.Row.TheVariants.{Inside, Members, Elements}
-use Rattle.wb_cells.specs.declared.changes.run.Form.{Form}
+use Rattle.wb_cells.specs.declared.changes.row.IndexedRow.{IndexedRow}
+use Rattle.wb_cells.specs.declared.changes.row.IndexedRow.TheVariants.{Inside, Members, Elements}
+use Rattle.wb_cells.specs.declared.changes.run.RunForm.{RunForm}
 use Rattle.wb_cells.specs.declared.values.index.Index.{Index}
 use Rattle.wb_cells.specs.Cells.{Name, Changes, cell_cmp, is_same_name}
 use Rattle.wb_cells.specs.Runs.{cell_of, change_at, packed_changes, labelled_at, labelled_changes, changes_in, in_first, all_changes}
@@ -122,7 +122,7 @@ row_leads f a es delta b xs lead = by (is_same_name a b) refl
 
 -- ---- a run of changes of one row
 
-module _ (f : Form) (row : Row) (es : List (List ℤ × Option ℤ)) (is : changes_in f ≡ packed_changes row es) where
+module _ (f : RunForm) (row : IndexedRow) (es : List (List ℤ × Option ℤ)) (is : changes_in f ≡ packed_changes row es) where
   module _ (p : Change Cell Value → Bool) (b : Bool) (same : (e : List ℤ × Option ℤ) → p (change_at row e) ≡ b) where
     pub row_kept : b ≡ true → filter p (changes_in f) ≡ changes_in f
     row_kept h = ap (filter p) is ∙ all_kept p (change_at row) (λ e. same e ∙ h) es ∙ sym is
@@ -131,7 +131,7 @@ module _ (f : Form) (row : Row) (es : List (List ℤ × Option ℤ)) (is : chang
     row_dropped h = ap (filter p) is ∙ none_kept p (change_at row) (λ e. same e ∙ h) es
 
 -- the same of changes at labels
-module _ (f : Form) (row : Row) (es : List (List ℕ × Option ℤ)) (is : changes_in f ≡ labelled_changes row es) where
+module _ (f : RunForm) (row : IndexedRow) (es : List (List ℕ × Option ℤ)) (is : changes_in f ≡ labelled_changes row es) where
   module _ (p : Change Cell Value → Bool) (b : Bool) (same : (e : List ℕ × Option ℤ) → p (labelled_at row e) ≡ b) where
     pub labels_kept : b ≡ true → filter p (changes_in f) ≡ changes_in f
     labels_kept h = ap (filter p) is ∙ all_kept p (labelled_at row) (λ e. same e ∙ h) es ∙ sym is
@@ -139,12 +139,12 @@ module _ (f : Form) (row : Row) (es : List (List ℕ × Option ℤ)) (is : chang
     pub labels_dropped : b ≡ false → filter p (changes_in f) ≡ []
     labels_dropped h = ap (filter p) is ∙ none_kept p (labelled_at row) (λ e. same e ∙ h) es
 
-pub leaves_row : (stored : Cell → Option Value) (row : Row) (i : Index) (v : Option Value) → leaves stored (record { cell = cell_of row i; value = v }) ≡ true
+pub leaves_row : (stored : Cell → Option Value) (row : IndexedRow) (i : Index) (v : Option Value) → leaves stored (record { cell = cell_of row i; value = v }) ≡ true
 leaves_row stored (Inside d) i v = refl
 leaves_row stored (Members d) i v = refl
 leaves_row stored (Elements a) i v = refl
 
-pub no_object : (row : Row) (n : Name) (i : Index) → eq_by_cmp cell_cmp (Object n) (cell_of row i) ≡ false
+pub no_object : (row : IndexedRow) (n : Name) (i : Index) → eq_by_cmp cell_cmp (Object n) (cell_of row i) ≡ false
 no_object (Inside d) n i = refl
 no_object (Members d) n i = refl
 no_object (Elements a) n i = refl
@@ -157,7 +157,7 @@ rows_lead f a es before gs named hs same made lead b =
     subst (λ (ys : Group). LeadTo (before ++ row_changes f (Elements a) es) b ys) (sym (made b))
     (row_leads f a es before b (changes_in_groups named b) (same_leads before gs named same lead b))
 
-pub never_named : (form : Form) (row : Row) (es : List (List ℤ × Option ℤ)) (n : Name) → changes_in form ≡ packed_changes row es →
+pub never_named : (form : RunForm) (row : IndexedRow) (es : List (List ℤ × Option ℤ)) (n : Name) → changes_in form ≡ packed_changes row es →
     changes cell_cmp (changes_in form) (Object n) ≡ true → ⊥
 never_named form row es n is e =
     let none : changes cell_cmp (packed_changes row es) (Object n) ≡ false =
@@ -165,7 +165,7 @@ never_named form row es n is e =
     let all : changes cell_cmp (packed_changes row es) (Object n) ≡ true = ap (λ ys. changes cell_cmp ys (Object n)) (sym is) ∙ e in
     true≢false (sym all ∙ none)
 
-pub never_labelled : (form : Form) (row : Row) (es : List (List ℕ × Option ℤ)) (n : Name) → changes_in form ≡ labelled_changes row es →
+pub never_labelled : (form : RunForm) (row : IndexedRow) (es : List (List ℕ × Option ℤ)) (n : Name) → changes_in form ≡ labelled_changes row es →
     changes cell_cmp (changes_in form) (Object n) ≡ true → ⊥
 never_labelled form row es n is e =
     let none : changes cell_cmp (labelled_changes row es) (Object n) ≡ false =

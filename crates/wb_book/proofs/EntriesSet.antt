@@ -9,7 +9,6 @@ use Rattle.std.specs.Ordering.{nat_cmp}
 use Rattle.std.specs.List.{list_all}
 use Rattle.std.specs.Option.{option_map, option_and_then}
 use Rattle.std.proofs.lemmas.Bool.{eqb-true}
-use Rattle.std.proofs.lemmas.List.{take_more}
 use Rattle.std.proofs.lemmas.List.Folds.{list_all-append}
 use Rattle.std.proofs.lemmas.Map.{lookup-set_value}
 use Rattle.selective_undo.specs.declared.Change.{Change}
@@ -18,7 +17,7 @@ use Rattle.wb_cells.specs.contracts.values.index.IndexOrd.TheImpl.Laws as index_
 use Rattle.wb_cells.specs.declared.cells.cell.Cell.{Cell}
 use Rattle.wb_cells.specs.declared.cells.value.Value.{Value}
 use Rattle.wb_cells.specs.declared.cells.value.Value.TheVariants.{Number}
-use Rattle.wb_cells.specs.declared.changes.row.Row.TheVariants.{Elements}
+use Rattle.wb_cells.specs.declared.changes.row.IndexedRow.TheVariants.{Elements}
 use Rattle.wb_cells.specs.declared.changes.run.ChangeRun.{ChangeRun}
 use Rattle.wb_cells.specs.declared.values.index.Index.{Index}
 use Rattle.wb_cells.specs.Cells.{Name, Cells, Changes, is_same_name, is_same_index}

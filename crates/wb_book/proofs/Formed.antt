@@ -1,5 +1,5 @@
 -- After changes the elements of each array stand at indices of its rank, and what changes of elements set are numbers.
-use Rattle.std.proofs.Common.{◌≡◌, ℕ, zero, suc, ◌≤◌, ◌==◌, ℤ, Bool, true, false, true≢false, cond, ◌&&◌, List, [], ◌∷◌, length, filter, Option, Some, None}
+use Rattle.std.proofs.Common.{◌≡◌, ℕ, zero, suc, ◌≤◌, ℤ, Bool, true, false, true≢false, cond, ◌&&◌, List, [], ◌∷◌, length, filter, Option, Some, None}
 use Rattle.std.proofs.Common.{ltb, is_some, IsSome, arith, refl, sym, ap, subst, ◌∙◌}
 use Rattle.std.specs.BTreeMap.{BTreeMap, is_at}
 use Rattle.std.specs.Cmp.{tied_itself}
@@ -10,9 +10,8 @@ use Rattle.std.specs.List.{list_all, AllByRecursion}
 use Rattle.std.specs.List.Sorted.{IsStrictlySortedBy}
 use Rattle.std.specs.Map.{lookup, keys_of}
 use Rattle.std.specs.Option.{option_map, option_and_then}
-use Rattle.std.specs.Ordering.{is_eq, nat_cmp, eq_by_cmp}
+use Rattle.std.specs.Ordering.{is_eq, nat_cmp}
 use Rattle.std.proofs.lemmas.Bool.{eq-eqb, ltb-true}
-use Rattle.selective_undo.specs.declared.Change.{Change}
 use Rattle.selective_undo.specs.Changes.{applied, apply, AllOnce, sets}
 use Rattle.selective_undo.proofs.Changes.{get-put, is_itself, apply_keeps}
 use Rattle.wb_dist.specs.Maps.{LayoutMap, whole}
@@ -20,7 +19,6 @@ use Rattle.wb_cells.specs.declared.cells.cell.Cell.{Cell}
 use Rattle.wb_cells.specs.declared.cells.cell.Cell.TheVariants.{Object, Shape, In, Member, Mapping, Use, Implicit, Element}
 use Rattle.wb_cells.specs.declared.cells.kind.DomainKind.{DomainKind}
 use Rattle.wb_cells.specs.declared.cells.kind.DomainKind.TheVariants.{Rectangular, Sparse, Associative}
-use Rattle.wb_cells.specs.declared.cells.kind.KeyType.{KeyType}
 use Rattle.wb_cells.specs.declared.cells.kind.KeyType.TheVariants.{Int, Text}
 use Rattle.wb_cells.specs.declared.cells.kind.Kind.{Kind}
 use Rattle.wb_cells.specs.declared.cells.value.Value.{Value}

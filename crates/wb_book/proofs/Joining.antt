@@ -10,7 +10,7 @@ use Rattle.std.specs.Option.{option_map}
 use Rattle.std.specs.Ordering.{nat_cmp}
 use Rattle.wb_cells.specs.declared.cells.cell.Cell.{Cell}
 use Rattle.wb_cells.specs.declared.cells.value.Value.{Value}
-use Rattle.wb_cells.specs.Cells.{Stored, Name, Cells, cell_cmp, cell_order, state_of}
+use Rattle.wb_cells.specs.Cells.{Stored, Name, Cells, cell_cmp, state_of}
 use Rattle.wb_cells.specs.WellFormed.{IsWellFormed, array_at}
 use Rattle.wb_cells.proofs.Order.{each_found}
 use Rattle.wb_cells.proofs.Shown.{get-state_of}

@@ -10,9 +10,7 @@ use Rattle.std.specs.Ordering.{nat_cmp}
 use Rattle.selective_undo.specs.Changes.{apply}
 use Rattle.wb_arrays.specs.Elements.{value_at}
 use Rattle.wb_arrays.proofs.Changes.{set_value-none}
-use Rattle.wb_cells.specs.declared.cells.cell.Cell.{Cell}
 use Rattle.wb_cells.specs.declared.cells.cell.Cell.TheVariants.{Element}
-use Rattle.wb_cells.specs.declared.cells.value.Value.{Value}
 use Rattle.wb_cells.specs.declared.cells.value.Value.TheVariants.{Number}
 use Rattle.wb_cells.specs.declared.values.index.Index.{Index}
 use Rattle.wb_cells.specs.Cells.{Stored, Name, Cells, index_cmp, is_same_name}

@@ -15,9 +15,9 @@ use Rattle.wb_cells.specs.declared.cells.cell.Cell.{Cell}
 use Rattle.wb_cells.specs.declared.cells.cell.Cell.TheVariants.{Element, Shape}
 use Rattle.wb_cells.specs.declared.cells.value.Value.{Value}
 use Rattle.wb_cells.specs.declared.cells.value.Value.TheVariants.{Number}
-use Rattle.wb_cells.specs.declared.changes.row.Row.TheVariants.{Inside, Elements}
-use Rattle.wb_cells.specs.declared.changes.row.Row.{Row}
-use Rattle.wb_cells.specs.declared.changes.run.Form.{Form}
+use Rattle.wb_cells.specs.declared.changes.row.IndexedRow.TheVariants.{Inside, Elements}
+use Rattle.wb_cells.specs.declared.changes.row.IndexedRow.{IndexedRow}
+use Rattle.wb_cells.specs.declared.changes.run.RunForm.{RunForm}
 use Rattle.wb_cells.specs.declared.values.index.Index.{Index}
 use Rattle.wb_cells.specs.declared.values.index.Index.TheVariants.{Point}
 use Rattle.wb_cells.specs.Cells.{Name, Changes, index_cmp, is_same_index}
@@ -45,11 +45,11 @@ more_there : (b c : Bool) → c ≡ true → b || c ≡ true
 more_there true c e = refl
 more_there false c e = e
 
-abbrev told_at : Row → List ℤ → Option Value → Change Cell Value
+abbrev told_at : IndexedRow → List ℤ → Option Value → Change Cell Value
 told_at row p v = record { cell = cell_of row (Point p); value = v }
 
 -- the same stands in all cells
-all_told : (answers : Cell → Option Value) (row : Row) (n m : Option ℤ) (ps : List (List ℤ)) →
+all_told : (answers : Cell → Option Value) (row : IndexedRow) (n m : Option ℤ) (ps : List (List ℤ)) →
     ((p : List ℤ) → has (map Point ps) (Point p) ≡ true → answers (cell_of row (Point p)) ≡ option_map (value_of row) m) →
     map (with_answer answers) (packed_changes row (map (λ p. (p, n)) ps)) ≡ packed_changes row (map (λ p. (p, m)) ps)
 all_told answers row n m [] all = refl
@@ -110,7 +110,7 @@ pub numbers_told : (stored : Cell → Option Value) (element : Name → Index �
     map (with_answer (answer stored element)) (packed_changes (Elements a) (rectangle_entries rs n))
 numbers_told stored element a n es rs sorted same all = numbers_go stored element a n es (product rs) sorted same (λ i some. all i)
 
-keys_go : (answers : Cell → Option Value) (row : Row) (n : Option ℤ) (ps : List (List ℤ)) (ns : List ℤ) → length ps ≤ length ns →
+keys_go : (answers : Cell → Option Value) (row : IndexedRow) (n : Option ℤ) (ps : List (List ℤ)) (ns : List ℤ) → length ps ≤ length ns →
     map (with_answer answers) (packed_changes row (map (λ p. (p, n)) ps)) ≡
     map (with_answer answers) (packed_changes row (zip ps (map (λ m. Some m) ns)))
 keys_go answers row n [] ns many = refl
@@ -119,22 +119,22 @@ keys_go answers row n (p ∷ ps) (m ∷ ns) many =
     ap (λ (ys : Changes). told_at row p (answers (cell_of row (Point p))) ∷ ys) (keys_go answers row n ps ns (omega (arith, many)))
 
 -- what the cells are goes by their indices alone
-pub keys_told : (answers : Cell → Option Value) (row : Row) (n : Option ℤ) (rs : List (List ℤ)) (ns : List ℤ) → length (indices rs) ≤ length ns →
+pub keys_told : (answers : Cell → Option Value) (row : IndexedRow) (n : Option ℤ) (rs : List (List ℤ)) (ns : List ℤ) → length (indices rs) ≤ length ns →
     map (with_answer answers) (packed_changes row (rectangle_entries rs n)) ≡ map (with_answer answers) (packed_changes row (numbered_entries rs ns))
 keys_told answers row n rs ns many = keys_go answers row n (product rs) ns (omega (arith, many, length-map (product rs) Point))
 
 -- elements at points that were read tell what the run of them was
-pub packed_told : (stored : Cell → Option Value) (element : Name → Index → Option ℤ) (a : Name) (row told : Row) (es read_by found : List (List ℤ × Option ℤ)) →
+pub packed_told : (stored : Cell → Option Value) (element : Name → Index → Option ℤ) (a : Name) (row told : IndexedRow) (es read_by found : List (List ℤ × Option ℤ)) →
     row ≡ Elements a → told ≡ Elements a → found ≡ read_at Point (element a) read_by → read_by ≡ es →
     packed_changes told found ≡ map (with_answer (answer stored element)) (packed_changes row es)
 packed_told stored element a row told es read_by found is told_is read same =
-    ap (λ (r : Row). packed_changes r found) told_is
+    ap (λ (r : IndexedRow). packed_changes r found) told_is
     ∙ ap (packed_changes (Elements a)) (read ∙ ap (read_at Point (element a)) same)
     ∙ row_told Point stored element a es
-    ∙ ap (λ (r : Row). map (with_answer (answer stored element)) (packed_changes r es)) (sym is)
+    ∙ ap (λ (r : IndexedRow). map (with_answer (answer stored element)) (packed_changes r es)) (sym is)
 
 -- a run that tells what a run of these changes was tells what a run in the same form was
-pub form_told : {E : Type 0} (r : Result (Option Form) E) (form : Form) (ys : Changes) (element : Name → Index → Option ℤ) → changes_in form ≡ ys →
+pub form_told : {E : Type 0} (r : Result (Option RunForm) E) (form : RunForm) (ys : Changes) (element : Name → Index → Option ℤ) → changes_in form ≡ ys →
     IfOk r (λ o. IfSome o (λ f. (stored : Cell → Option Value) → changes_in f ≡ map (with_answer (answer stored element)) ys)) →
     (stored : Cell → Option Value) → IfOk r (λ o. IfSome o (λ f. changes_in f ≡ map (with_answer (answer stored element)) (changes_in form)))
 form_told (Ok (Some f)) form ys element is told stored = told stored ∙ ap (map (with_answer (answer stored element))) (sym is)
@@ -142,18 +142,18 @@ form_told (Ok None) form ys element is told stored = tt
 form_told (Err e) form ys element is told stored = tt
 
 -- a run that tells what the cells at the indices of a rectangle were tells what changes at these were
-pub rectangle_told : {E : Type 0} (r : Result (Option Form) E) (answers : Cell → Option Value) (n : Option ℤ) (row told : Row) (rs over : List (List ℤ))
+pub rectangle_told : {E : Type 0} (r : Result (Option RunForm) E) (answers : Cell → Option Value) (n : Option ℤ) (row told : IndexedRow) (rs over : List (List ℤ))
     (ys : Changes) → told ≡ row → over ≡ rs → map (with_answer answers) (packed_changes row (rectangle_entries rs n)) ≡ map (with_answer answers) ys →
     IfOk r (λ o. IfSome o (λ f. (m : Option ℤ) → changes_in f ≡ map (with_answer answers) (packed_changes told (rectangle_entries over m)))) →
     IfOk r (λ o. IfSome o (λ f. changes_in f ≡ map (with_answer answers) ys))
 rectangle_told (Ok (Some f)) answers n row told rs over ys same_row same_ranges is told_by =
-    told_by n ∙ ap (λ (r : Row). map (with_answer answers) (packed_changes r (rectangle_entries over n))) same_row
+    told_by n ∙ ap (λ (r : IndexedRow). map (with_answer answers) (packed_changes r (rectangle_entries over n))) same_row
     ∙ ap (λ (qs : List (List ℤ)). map (with_answer answers) (packed_changes row (rectangle_entries qs n))) same_ranges ∙ is
 rectangle_told (Ok None) answers n row told rs over ys same_row same_ranges is told_by = tt
 rectangle_told (Err e) answers n row told rs over ys same_row same_ranges is told_by = tt
 
 -- what a run of the same changes was
-pub block_told : {E : Type 0} (r : Result (Option Form) E) (form : Form) (answers : Cell → Option Value) (ys : Changes) → changes_in form ≡ ys →
+pub block_told : {E : Type 0} (r : Result (Option RunForm) E) (form : RunForm) (answers : Cell → Option Value) (ys : Changes) → changes_in form ≡ ys →
     IfOk r (λ o. IfSome o (λ f. changes_in f ≡ map (with_answer answers) ys)) →
     IfOk r (λ o. IfSome o (λ f. changes_in f ≡ map (with_answer answers) (changes_in form)))
 block_told (Ok (Some f)) form answers ys is told = told ∙ ap (map (with_answer answers)) (sym is)
@@ -161,24 +161,24 @@ block_told (Ok None) form answers ys is told = tt
 block_told (Err e) form answers ys is told = tt
 
 -- the same where the row is known by its form
-pub inside_row_told : (o : Option Form) (stored : Cell → Option Value) (element : Name → Index → Option ℤ) (row : Row) (d : Name) (rs : List (List ℤ)) →
+pub inside_row_told : (o : Option RunForm) (stored : Cell → Option Value) (element : Name → Index → Option ℤ) (row : IndexedRow) (d : Name) (rs : List (List ℤ)) →
     row ≡ Inside d → IfSome o (λ f. (element : Name → Index → Option ℤ) (n : Option ℤ) →
     changes_in f ≡ map (with_answer (answer stored element)) (packed_changes (Inside d) (rectangle_entries rs n))) →
     IfSome o (λ f. (n : Option ℤ) → changes_in f ≡ map (with_answer (answer stored element)) (packed_changes row (rectangle_entries rs n)))
 inside_row_told (Some f) stored element row d rs is told = λ n.
-    told element n ∙ ap (λ (r : Row). map (with_answer (answer stored element)) (packed_changes r (rectangle_entries rs n))) (sym is)
+    told element n ∙ ap (λ (r : IndexedRow). map (with_answer (answer stored element)) (packed_changes r (rectangle_entries rs n))) (sym is)
 inside_row_told None stored element row d rs is told = tt
 
-pub elements_row_told : {E : Type 0} (r : Result (Option Form) E) (stored : Cell → Option Value) (element : Name → Index → Option ℤ) (row : Row) (a : Name)
+pub elements_row_told : {E : Type 0} (r : Result (Option RunForm) E) (stored : Cell → Option Value) (element : Name → Index → Option ℤ) (row : IndexedRow) (a : Name)
     (rs : List (List ℤ)) → row ≡ Elements a → IfOk r (λ o. IfSome o (λ f. (stored : Cell → Option Value) (n : Option ℤ) →
     changes_in f ≡ map (with_answer (answer stored element)) (packed_changes (Elements a) (rectangle_entries rs n)))) →
     IfOk r (λ o. IfSome o (λ f. (n : Option ℤ) → changes_in f ≡ map (with_answer (answer stored element)) (packed_changes row (rectangle_entries rs n))))
 elements_row_told (Ok (Some f)) stored element row a rs is told = λ n.
-    told stored n ∙ ap (λ (q : Row). map (with_answer (answer stored element)) (packed_changes q (rectangle_entries rs n))) (sym is)
+    told stored n ∙ ap (λ (q : IndexedRow). map (with_answer (answer stored element)) (packed_changes q (rectangle_entries rs n))) (sym is)
 elements_row_told (Ok None) stored element row a rs is told = tt
 elements_row_told (Err e) stored element row a rs is told = tt
 
-pub known_told : {E : Type 0} (r : Result (Option Form) E) (element : Name → Index → Option ℤ) (a : Name) (rs : List (List ℤ)) (es : List (Index × ℤ)) →
+pub known_told : {E : Type 0} (r : Result (Option RunForm) E) (element : Name → Index → Option ℤ) (a : Name) (rs : List (List ℤ)) (es : List (Index × ℤ)) →
     ((i : Index) → element a i ≡ element_at es i) →
     IfOk r (λ o. IfSome o (λ f. (stored : Cell → Option Value) (element : Name → Index → Option ℤ) (n : Option ℤ) →
     ((i : Index) → element a i ≡ element_at es i) →

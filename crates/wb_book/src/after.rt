@@ -8,7 +8,7 @@ ghost use Rattle.wb_cells.specs.declared.cells.value.Value.{Value as value_type}
 ghost use Rattle.wb_cells.specs.declared.cells.cell.Cell.TheVariants.{Mapping as mapping_cell, Object as object_cell, Shape as shape_cell};
 ghost use Rattle.wb_cells.specs.declared.cells.kind.Kind.{Kind};
 ghost use Rattle.wb_cells.specs.declared.cells.value.Value.TheVariants.{Array as array_value};
-ghost use Rattle.wb_cells.specs.declared.changes.row.Row.TheVariants.{Inside as inside_row, Elements as element_row};
+ghost use Rattle.wb_cells.specs.declared.changes.row.IndexedRow.TheVariants.{Inside as inside_row, Elements as element_row};
 ghost use Rattle.wb_cells.specs.WellFormed.{ranges_in};
 ghost use Rattle.wb_dist.specs.Maps.{LayoutMap};
 ghost use Rattle.wb_cells.specs.Locales.{mapping_in};
@@ -28,10 +28,10 @@ use std::alloc::Global;
 use std::collections::BTreeMap;
 use wb_arrays::{MoveErr, Mover};
 use wb_cells::{
-    AnyIndex, AnyLayout, AnyRect, Cell, CellChange, ChangeRun, Changes, DomainKind, Form, KeyType,
-    Name, Packed, RectangleChanges, RectangleNumbers, Row, StoredCells, Value,
+    AnyIndex, AnyLayout, AnyRect, Cell, CellChange, ChangeRun, Changes, DomainKind, IndexedRow,
+    KeyType, Name, Packed, RectangleChanges, RectangleNumbers, RunForm, StoredCells, Value,
 };
-use wb_elements::{Block, Elements, Kept};
+use wb_elements::{ChangeBlock, Elements, KeptChanges};
 use wb_range::NoMemory;
 
 fn mapping_in(cells: &StoredCells, domain: &Name) -> Option<AnyLayout>
@@ -107,29 +107,29 @@ fn is_of_stored(change: &CellChange) -> bool
 }
 
 // Whether the changes of a run are of stored cells: all are, or none is.
-fn are_stored(form: &Form) -> bool
+fn are_stored(form: &RunForm) -> bool
     ensures all { result ≡ true → filter (λ x. is_stored x.cell) (changes_in form.now) ≡ changes_in form.now }
     ensures none { result ≡ false → filter (λ x. is_stored x.cell) (changes_in form.now) ≡ [] }
 {
     match form {
-        Form::One(change) => is_of_stored(change),
-        Form::Line(packed) => is_row_stored(packed.row()),
-        Form::Plane(packed) => is_row_stored(packed.row()),
-        Form::Solid(packed) => is_row_stored(packed.row()),
-        Form::Labels(labels) => is_row_stored(labels.row()),
-        Form::Rectangle(rectangle) => is_row_stored(rectangle.row()),
-        Form::Numbers(rectangle) => is_row_stored(rectangle.row()),
+        RunForm::One(change) => is_of_stored(change),
+        RunForm::Rank1(packed) => is_row_stored(packed.row()),
+        RunForm::Rank2(packed) => is_row_stored(packed.row()),
+        RunForm::Rank3(packed) => is_row_stored(packed.row()),
+        RunForm::Labels(labels) => is_row_stored(labels.row()),
+        RunForm::Rectangle(rectangle) => is_row_stored(rectangle.row()),
+        RunForm::Numbers(rectangle) => is_row_stored(rectangle.row()),
     }
 }
 
 // Whether the cells of a row are stored.
-fn is_row_stored(row: &Row) -> bool
+fn is_row_stored(row: &IndexedRow) -> bool
     ensures { (i : index_type) → result ≡ is_stored (cell_of row.now i) }
 {
     match row {
-        Row::Inside(_) => false,
-        Row::Members(_) => true,
-        Row::Elements(_) => false,
+        IndexedRow::Inside(_) => false,
+        IndexedRow::Members(_) => true,
+        IndexedRow::Elements(_) => false,
     }
 }
 
@@ -257,7 +257,7 @@ fn ranges_in(cells: &StoredCells, domain: &Name) -> Option<AnyRect>
 
 // The changes that set the cells `In` of a domain at the indices of a rectangle to what they are now, as a run: either all of
 // them are in the domain, or none is. `None` where neither is known.
-fn inside_before(cells: &StoredCells, domain: &Name, ranges: &AnyRect) -> Option<Form>
+fn inside_before(cells: &StoredCells, domain: &Name, ranges: &AnyRect) -> Option<RunForm>
     ensures { IfSome result (λ f. (element : List ℕ → index_type → Option ℤ) (n : Option ℤ) →
         changes_in f ≡ map (with_answer (answer (stored_in cells.now.entries) element)) (packed_changes (inside_row domain.now)
         (rectangle_entries ranges.now n))) }
@@ -265,12 +265,20 @@ fn inside_before(cells: &StoredCells, domain: &Name, ranges: &AnyRect) -> Option
     match ranges_in(cells, domain) {
         Some(there) => {
             if there.is_same(ranges) {
-                Some(Form::Rectangle(RectangleChanges::new(Row::Inside(*domain), *ranges, Some(0))))
+                Some(RunForm::Rectangle(RectangleChanges::new(
+                    IndexedRow::Inside(*domain),
+                    *ranges,
+                    Some(0),
+                )))
             } else {
                 None
             }
         }
-        None => Some(Form::Rectangle(RectangleChanges::new(Row::Inside(*domain), *ranges, None))),
+        None => Some(RunForm::Rectangle(RectangleChanges::new(
+            IndexedRow::Inside(*domain),
+            *ranges,
+            None,
+        ))),
     }
 }
 
@@ -281,7 +289,7 @@ fn known_before(
     elements: &Elements,
     array: &Name,
     ranges: &AnyRect,
-) -> Result<Option<Form>, NoMemory>
+) -> Result<Option<RunForm>, NoMemory>
     ensures { IfOk result (λ o. IfSome o (λ f. (stored : cell_type → Option value_type) (element : List ℕ → index_type → Option ℤ) (n : Option ℤ) →
         ((i : index_type) → element array.now i ≡ element_at elements.now.0 i) →
         changes_in f ≡ map (with_answer (answer stored element)) (packed_changes (element_row array.now) (rectangle_entries ranges.now n)))) }
@@ -290,8 +298,8 @@ fn known_before(
         return Ok(None);
     }
     match elements.numbers(alloc) {
-        Ok(numbers) => Ok(Some(Form::Numbers(RectangleNumbers::new(
-            Row::Elements(*array),
+        Ok(numbers) => Ok(Some(RunForm::Numbers(RectangleNumbers::new(
+            IndexedRow::Elements(*array),
             *ranges,
             numbers,
         )))),
@@ -306,15 +314,15 @@ fn elements_before(
     arrays: &BTreeMap<Name, Elements>,
     array: &Name,
     ranges: &AnyRect,
-) -> Result<Option<Form>, NoMemory>
+) -> Result<Option<RunForm>, NoMemory>
     ensures { IfOk result (λ o. IfSome o (λ f. (stored : cell_type → Option value_type) (n : Option ℤ) →
         changes_in f ≡ map (with_answer (answer stored (element_in arrays.now.entries))) (packed_changes (element_row array.now)
         (rectangle_entries ranges.now n)))) }
 {
     match arrays.get(array) {
         Some(elements) => known_before(alloc, elements, array, ranges),
-        None => Ok(Some(Form::Rectangle(RectangleChanges::new(
-            Row::Elements(*array),
+        None => Ok(Some(RunForm::Rectangle(RectangleChanges::new(
+            IndexedRow::Elements(*array),
             *ranges,
             None,
         )))),
@@ -327,17 +335,17 @@ fn rectangle_before(
     alloc: Global,
     cells: &StoredCells,
     arrays: &BTreeMap<Name, Elements>,
-    row: &Row,
+    row: &IndexedRow,
     ranges: &AnyRect,
-) -> Result<Option<Form>, NoMemory>
+) -> Result<Option<RunForm>, NoMemory>
     ensures { IfOk result (λ o. IfSome o (λ f. (n : Option ℤ) →
         changes_in f ≡ map (with_answer (answer (stored_in cells.now.entries) (element_in arrays.now.entries))) (packed_changes row.now
         (rectangle_entries ranges.now n)))) }
 {
     match row {
-        Row::Inside(domain) => Ok(inside_before(cells, domain, ranges)),
-        Row::Members(_) => Ok(None),
-        Row::Elements(array) => elements_before(alloc, arrays, array, ranges),
+        IndexedRow::Inside(domain) => Ok(inside_before(cells, domain, ranges)),
+        IndexedRow::Members(_) => Ok(None),
+        IndexedRow::Elements(array) => elements_before(alloc, arrays, array, ranges),
     }
 }
 
@@ -348,7 +356,7 @@ fn same_before(
     cells: &StoredCells,
     arrays: &BTreeMap<Name, Elements>,
     block: &RectangleChanges,
-) -> Result<Option<Form>, NoMemory>
+) -> Result<Option<RunForm>, NoMemory>
     ensures { IfOk result (λ o. IfSome o (λ f.
         changes_in f ≡ map (with_answer (answer (stored_in cells.now.entries) (element_in arrays.now.entries))) (packed_changes block.now.row
         (rectangle_entries block.now.ranges block.now.number)))) }
@@ -363,7 +371,7 @@ fn each_before(
     cells: &StoredCells,
     arrays: &BTreeMap<Name, Elements>,
     block: &RectangleNumbers,
-) -> Result<Option<Form>, NoMemory>
+) -> Result<Option<RunForm>, NoMemory>
     ensures { IfOk result (λ o. IfSome o (λ f.
         changes_in f ≡ map (with_answer (answer (stored_in cells.now.entries) (element_in arrays.now.entries))) (packed_changes block.now.row
         (numbered_entries block.now.ranges block.now.numbers.items)))) }
@@ -377,13 +385,13 @@ fn each_before(
 }
 
 // The array of a row of elements.
-fn array_of(row: &Row) -> Option<Name>
+fn array_of(row: &IndexedRow) -> Option<Name>
     ensures { IfSome result (λ a. row.now ≡ element_row a) }
 {
     match row {
-        Row::Inside(_) => None,
-        Row::Members(_) => None,
-        Row::Elements(array) => Some(*array),
+        IndexedRow::Inside(_) => None,
+        IndexedRow::Members(_) => None,
+        IndexedRow::Elements(array) => Some(*array),
     }
 }
 
@@ -392,7 +400,7 @@ fn line_before(
     alloc: Global,
     arrays: &BTreeMap<Name, Elements>,
     packed: &Packed<1>,
-) -> Result<Option<Form>, NoMemory>
+) -> Result<Option<RunForm>, NoMemory>
     ensures { IfOk result (λ o. IfSome o (λ f. (stored : cell_type → Option value_type) →
         changes_in f ≡ map (with_answer (answer stored (element_in arrays.now.entries))) (packed_changes packed.now.row packed.now.changes.items))) }
 {
@@ -400,7 +408,7 @@ fn line_before(
         return Ok(None);
     };
     match keep::elements_at(alloc, arrays, &array, packed.changes()) {
-        Ok(found) => Ok(Some(Form::Line(Packed::new(Row::Elements(array), found)))),
+        Ok(found) => Ok(Some(RunForm::Rank1(Packed::new(IndexedRow::Elements(array), found)))),
         Err(why) => Err(why),
     }
 }
@@ -410,7 +418,7 @@ fn plane_before(
     alloc: Global,
     arrays: &BTreeMap<Name, Elements>,
     packed: &Packed<2>,
-) -> Result<Option<Form>, NoMemory>
+) -> Result<Option<RunForm>, NoMemory>
     ensures { IfOk result (λ o. IfSome o (λ f. (stored : cell_type → Option value_type) →
         changes_in f ≡ map (with_answer (answer stored (element_in arrays.now.entries))) (packed_changes packed.now.row packed.now.changes.items))) }
 {
@@ -418,7 +426,7 @@ fn plane_before(
         return Ok(None);
     };
     match keep::elements_at(alloc, arrays, &array, packed.changes()) {
-        Ok(found) => Ok(Some(Form::Plane(Packed::new(Row::Elements(array), found)))),
+        Ok(found) => Ok(Some(RunForm::Rank2(Packed::new(IndexedRow::Elements(array), found)))),
         Err(why) => Err(why),
     }
 }
@@ -428,7 +436,7 @@ fn solid_before(
     alloc: Global,
     arrays: &BTreeMap<Name, Elements>,
     packed: &Packed<3>,
-) -> Result<Option<Form>, NoMemory>
+) -> Result<Option<RunForm>, NoMemory>
     ensures { IfOk result (λ o. IfSome o (λ f. (stored : cell_type → Option value_type) →
         changes_in f ≡ map (with_answer (answer stored (element_in arrays.now.entries))) (packed_changes packed.now.row packed.now.changes.items))) }
 {
@@ -436,7 +444,7 @@ fn solid_before(
         return Ok(None);
     };
     match keep::elements_at(alloc, arrays, &array, packed.changes()) {
-        Ok(found) => Ok(Some(Form::Solid(Packed::new(Row::Elements(array), found)))),
+        Ok(found) => Ok(Some(RunForm::Rank3(Packed::new(IndexedRow::Elements(array), found)))),
         Err(why) => Err(why),
     }
 }
@@ -446,19 +454,19 @@ fn form_before(
     alloc: Global,
     cells: &StoredCells,
     arrays: &BTreeMap<Name, Elements>,
-    form: &Form,
-) -> Result<Option<Form>, NoMemory>
+    form: &RunForm,
+) -> Result<Option<RunForm>, NoMemory>
     ensures { IfOk result (λ o. IfSome o (λ f.
         changes_in f ≡ map (with_answer (answer (stored_in cells.now.entries) (element_in arrays.now.entries))) (changes_in form.now))) }
 {
     match form {
-        Form::One(_) => Ok(None),
-        Form::Line(packed) => line_before(alloc, arrays, packed),
-        Form::Plane(packed) => plane_before(alloc, arrays, packed),
-        Form::Solid(packed) => solid_before(alloc, arrays, packed),
-        Form::Labels(_) => Ok(None),
-        Form::Rectangle(block) => same_before(alloc, cells, arrays, block),
-        Form::Numbers(block) => each_before(alloc, cells, arrays, block),
+        RunForm::One(_) => Ok(None),
+        RunForm::Rank1(packed) => line_before(alloc, arrays, packed),
+        RunForm::Rank2(packed) => plane_before(alloc, arrays, packed),
+        RunForm::Rank3(packed) => solid_before(alloc, arrays, packed),
+        RunForm::Labels(_) => Ok(None),
+        RunForm::Rectangle(block) => same_before(alloc, cells, arrays, block),
+        RunForm::Numbers(block) => each_before(alloc, cells, arrays, block),
     }
 }
 
@@ -568,7 +576,7 @@ pub(crate) fn after_one<V: Mover>(
 }
 
 // The elements of an array after changes at the indices of a rectangle, by how it lies then; `None` where they are as they were.
-fn after_block<V: Mover, B: Block>(
+fn after_block<V: Mover, B: ChangeBlock>(
     alloc: Global,
     block: &B,
     elements: &Elements,
@@ -611,9 +619,9 @@ fn after_group<V: Mover>(
     ensures no_thread { result ≡ Err MoveErr.NoThread → V.may_lack_threads mover.now }
 {
     match group.kept() {
-        Kept::Listed(changes) => after_one(alloc, changes.as_slice(), elements, lies, mover),
-        Kept::Same(block) => after_block(alloc, block, elements, lies, mover),
-        Kept::Each(block) => after_block(alloc, block, elements, lies, mover),
+        KeptChanges::Listed(changes) => after_one(alloc, changes.as_slice(), elements, lies, mover),
+        KeptChanges::Same(block) => after_block(alloc, block, elements, lies, mover),
+        KeptChanges::Each(block) => after_block(alloc, block, elements, lies, mover),
     }
 }
 
@@ -676,7 +684,7 @@ fn after_named<V: Mover>(
 }
 
 /// The arrays that are named and are others after changes, in the order of their names.
-pub(crate) fn built<V: Mover>(
+pub(crate) fn build_arrays<V: Mover>(
     alloc: Global,
     cells: &StoredCells,
     arrays: &BTreeMap<Name, Elements>,

@@ -169,7 +169,7 @@ fn set_given(cells: &mut StoredCells, stored: &[CellChange]) -> Result<(), NoMem
 
 /// What can fail of changes: sets the stored cells that they give a value, puts an array of each new name, and makes the
 /// arrays that are others afterwards. It may stop midway.
-fn prepared<V: Mover>(
+fn prepare<V: Mover>(
     alloc: Global,
     cells: &mut StoredCells,
     arrays: &mut BTreeMap<Name, Elements>,
@@ -204,7 +204,7 @@ fn prepared<V: Mover>(
     if put_new(alloc, cells, arrays, stored).is_err() {
         return Err(MoveErr::NoMemory);
     }
-    after::built(alloc, cells, arrays, groups, mover)
+    after::build_arrays(alloc, cells, arrays, groups, mover)
 }
 
 /// What can't fail of changes: clears the stored cells that they give no value, puts the arrays in that are others, and
@@ -352,10 +352,10 @@ fn change_any<V: Mover>(
         return Err(MoveErr::NoMemory);
     };
     let back = before.as_slice();
-    let Ok(groups) = groups::concerned(alloc, cells, arrays, delta) else {
+    let Ok(groups) = groups::group_changes(alloc, cells, arrays, delta) else {
         return Err(MoveErr::NoMemory);
     };
-    match prepared(alloc, cells, arrays, &groups, changed, mover) {
+    match prepare(alloc, cells, arrays, &groups, changed, mover) {
         Ok(built) => {
             finish(cells, arrays, changed, built);
             Ok(())

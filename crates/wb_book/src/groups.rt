@@ -27,16 +27,16 @@ use std::collections::BTreeMap;
 use std::marker::Model;
 use std::mem;
 use wb_cells::{
-    AnyIndex, Cell, CellChange, ChangeRun, Changes, Form, LabelChanges, Name, Row, StoredCells,
-    Value,
+    AnyIndex, AsIndex, Cell, CellChange, ChangeRun, Changes, IndexedRow, LabelChanges, Name,
+    RunForm, StoredCells, Value,
 };
-use wb_elements::{AsIndex, Block, Elements, Kept, list_block};
+use wb_elements::{ChangeBlock, Elements, KeptChanges, list_block};
 use wb_range::NoMemory;
 
 /// Changes of the elements of an array: to a number, or to absent.
 #[derive(Drop)]
 pub(crate) struct Group {
-    kept: Kept,
+    kept: KeptChanges,
 }
 
 impl Model for Group {
@@ -50,7 +50,7 @@ impl Model for Group {
 }
 
 /// The changes, each by its index.
-pub(crate) fn list_of<B: Block>(
+pub(crate) fn list_of<B: ChangeBlock>(
     alloc: Global,
     block: &B,
 ) -> Result<Vec<(AnyIndex, Option<i64>)>, NoMemory>
@@ -62,13 +62,13 @@ pub(crate) fn list_of<B: Block>(
 }
 
 // Changes that are kept, each by its index.
-fn into_list(alloc: Global, kept: Kept) -> Result<Vec<(AnyIndex, Option<i64>)>, NoMemory>
+fn into_list(alloc: Global, kept: KeptChanges) -> Result<Vec<(AnyIndex, Option<i64>)>, NoMemory>
     ensures { IfOk result (λ v. v.items ≡ listed kept) }
 {
     match kept {
-        Kept::Listed(list) => Ok(list),
-        Kept::Same(block) => list_of(alloc, &block),
-        Kept::Each(block) => list_of(alloc, &block),
+        KeptChanges::Listed(list) => Ok(list),
+        KeptChanges::Same(block) => list_of(alloc, &block),
+        KeptChanges::Each(block) => list_of(alloc, &block),
     }
 }
 
@@ -77,7 +77,7 @@ impl Group {
         ensures { result ≡ [] }
     {
         Group {
-            kept: Kept::Listed(Vec::new(alloc)),
+            kept: KeptChanges::Listed(Vec::new(alloc)),
         }
     }
 
@@ -85,7 +85,7 @@ impl Group {
     fn take(&mut self, alloc: Global) -> Result<Vec<(AnyIndex, Option<i64>)>, NoMemory>
         ensures { IfOk result (λ v. v.items ≡ self.old) }
     {
-        let kept = mem::replace(&mut self.kept, Kept::Listed(Vec::new(alloc)));
+        let kept = mem::replace(&mut self.kept, KeptChanges::Listed(Vec::new(alloc)));
         into_list(alloc, kept)
     }
 
@@ -94,7 +94,7 @@ impl Group {
     {
         let mut list = self.take(alloc)?;
         list.push((index, number))?;
-        self.kept = Kept::Listed(list);
+        self.kept = KeptChanges::Listed(list);
         Ok(())
     }
 
@@ -107,11 +107,11 @@ impl Group {
     {
         let mut list = self.take(alloc)?;
         push_all(&mut list, changes)?;
-        self.kept = Kept::Listed(list);
+        self.kept = KeptChanges::Listed(list);
         Ok(())
     }
 
-    fn add_block<B: Block>(&mut self, alloc: Global, block: &B) -> Result<(), NoMemory>
+    fn add_block<B: ChangeBlock>(&mut self, alloc: Global, block: &B) -> Result<(), NoMemory>
         ensures { OnOk result (self.new ≡ self.old ++ as_changes point_index (B.entries block.now)) }
     {
         let mut list = self.take(alloc)?;
@@ -120,11 +120,11 @@ impl Group {
             return Ok(());
         }
         list_block(&mut list, block)?;
-        self.kept = Kept::Listed(list);
+        self.kept = KeptChanges::Listed(list);
         Ok(())
     }
 
-    pub(crate) fn kept(&self) -> &Kept
+    pub(crate) fn kept(&self) -> &KeptChanges
         ensures { listed result.now ≡ self.now }
     {
         &self.kept
@@ -241,7 +241,7 @@ fn add_all<I: AsIndex>(
 fn add_entries<I: AsIndex>(
     alloc: Global,
     groups: &mut BTreeMap<Name, Group>,
-    row: &Row,
+    row: &IndexedRow,
     changes: &[(I, Option<i64>)],
 ) -> Result<(), NoMemory>
     ensures lead { (before : List (Change cell_type value_type)) → ((b : List ℕ) → LeadTo before b (changes_in groups.old.entries b)) →
@@ -249,9 +249,9 @@ fn add_entries<I: AsIndex>(
     ensures stays { (b : List ℕ) → IsSome (group_in groups.old.entries b) → IsSome (group_in groups.new.entries b) }
 {
     match row {
-        Row::Inside(_) => Ok(()),
-        Row::Members(_) => Ok(()),
-        Row::Elements(name) => {
+        IndexedRow::Inside(_) => Ok(()),
+        IndexedRow::Members(_) => Ok(()),
+        IndexedRow::Elements(name) => {
             put_group(alloc, groups, name)?;
             add_all(alloc, groups, name, changes)
         }
@@ -259,7 +259,7 @@ fn add_entries<I: AsIndex>(
 }
 
 // Adds changes of elements at the indices of a rectangle to those of an array that is named.
-fn add_over<B: Block>(
+fn add_over<B: ChangeBlock>(
     alloc: Global,
     groups: &mut BTreeMap<Name, Group>,
     name: &Name,
@@ -278,7 +278,7 @@ fn add_over<B: Block>(
 
 // Adds changes of cells of a row at the indices of a rectangle to those of their array, which it names; where the cells are no
 // elements, it adds nothing.
-fn add_block<B: Block>(
+fn add_block<B: ChangeBlock>(
     alloc: Global,
     groups: &mut BTreeMap<Name, Group>,
     block: &B,
@@ -288,9 +288,9 @@ fn add_block<B: Block>(
     ensures stays { (b : List ℕ) → IsSome (group_in groups.old.entries b) → IsSome (group_in groups.new.entries b) }
 {
     match block.of_row() {
-        Row::Inside(_) => Ok(()),
-        Row::Members(_) => Ok(()),
-        Row::Elements(name) => {
+        IndexedRow::Inside(_) => Ok(()),
+        IndexedRow::Members(_) => Ok(()),
+        IndexedRow::Elements(name) => {
             put_group(alloc, groups, &name)?;
             add_over(alloc, groups, &name, block)
         }
@@ -315,7 +315,11 @@ fn add_labels(
 }
 
 // Adds the changes of a run to those of the arrays whose elements they set; each object that changes is named as well.
-fn add_run(alloc: Global, groups: &mut BTreeMap<Name, Group>, form: &Form) -> Result<(), NoMemory>
+fn add_run(
+    alloc: Global,
+    groups: &mut BTreeMap<Name, Group>,
+    form: &RunForm,
+) -> Result<(), NoMemory>
     requires { list_all is_numeric (run_changes form.now) ≡ true }
     ensures lead { (before : List (Change cell_type value_type)) → ((b : List ℕ) → LeadTo before b (changes_in groups.old.entries b)) →
         OnOk result ((b : List ℕ) → LeadTo (before ++ run_changes form.now) b (changes_in groups.new.entries b)) }
@@ -323,13 +327,13 @@ fn add_run(alloc: Global, groups: &mut BTreeMap<Name, Group>, form: &Form) -> Re
     ensures object { OnOk result ((b : List ℕ) → changes cell_cmp (run_changes form.now) (Object b) ≡ true → IsSome (group_in groups.new.entries b)) }
 {
     match form {
-        Form::One(change) => add_change(alloc, groups, change),
-        Form::Line(packed) => add_entries(alloc, groups, packed.row(), packed.changes()),
-        Form::Plane(packed) => add_entries(alloc, groups, packed.row(), packed.changes()),
-        Form::Solid(packed) => add_entries(alloc, groups, packed.row(), packed.changes()),
-        Form::Labels(labels) => add_labels(alloc, groups, labels),
-        Form::Rectangle(block) => add_block(alloc, groups, block),
-        Form::Numbers(block) => add_block(alloc, groups, block),
+        RunForm::One(change) => add_change(alloc, groups, change),
+        RunForm::Rank1(packed) => add_entries(alloc, groups, packed.row(), packed.changes()),
+        RunForm::Rank2(packed) => add_entries(alloc, groups, packed.row(), packed.changes()),
+        RunForm::Rank3(packed) => add_entries(alloc, groups, packed.row(), packed.changes()),
+        RunForm::Labels(labels) => add_labels(alloc, groups, labels),
+        RunForm::Rectangle(block) => add_block(alloc, groups, block),
+        RunForm::Numbers(block) => add_block(alloc, groups, block),
     }
 }
 
@@ -405,17 +409,17 @@ fn leaves(cells: &StoredCells, change: &CellChange) -> bool
 
 // Whether each change of a run leaves each object and each mapping that is there as it is, or clears it. No cell of a row, and
 // none of a rectangle, is an object or a mapping.
-fn run_leaves(cells: &StoredCells, form: &Form) -> bool
+fn run_leaves(cells: &StoredCells, form: &RunForm) -> bool
     ensures { result ≡ list_all (leaves (stored_in cells.now.entries)) (run_changes form.now) }
 {
     match form {
-        Form::One(change) => leaves(cells, change),
-        Form::Line(_) => true,
-        Form::Plane(_) => true,
-        Form::Solid(_) => true,
-        Form::Labels(_) => true,
-        Form::Rectangle(_) => true,
-        Form::Numbers(_) => true,
+        RunForm::One(change) => leaves(cells, change),
+        RunForm::Rank1(_) => true,
+        RunForm::Rank2(_) => true,
+        RunForm::Rank3(_) => true,
+        RunForm::Labels(_) => true,
+        RunForm::Rectangle(_) => true,
+        RunForm::Numbers(_) => true,
     }
 }
 
@@ -446,7 +450,7 @@ fn are_left(cells: &StoredCells, delta: &Changes) -> bool
 
 /// The changes of elements by their arrays. Named are all arrays that may become others: where no object and no mapping
 /// that is there changes, those that the changes name, and else all.
-pub(crate) fn concerned(
+pub(crate) fn group_changes(
     alloc: Global,
     cells: &StoredCells,
     arrays: &BTreeMap<Name, Elements>,

@@ -20,10 +20,10 @@ ghost use Rattle.wb_book.specs.Joined.{answer, stored_in, element_in};
 use std::alloc::Global;
 use std::collections::BTreeMap;
 use wb_cells::{
-    AnyIndex, Cell, CellChange, ChangeRun, Changes, Form, LabelChanges, Name, Row, StoredCells,
-    Value,
+    AnyIndex, AsIndex, Cell, CellChange, ChangeRun, Changes, IndexedRow, LabelChanges, Name,
+    RunForm, StoredCells, Value,
 };
-use wb_elements::{AsIndex, Block, Elements, PieceKey, is_block_there, write_block};
+use wb_elements::{ChangeBlock, Elements, PieceKey, is_block_there, write_block};
 use wb_range::NoMemory;
 
 // Whether an index is in a rectangular domain.
@@ -48,7 +48,7 @@ fn element(arrays: &BTreeMap<Name, Elements>, array: &Name, index: &AnyIndex) ->
     ensures { result ≡ element_in arrays.now.entries array.now index.now }
 {
     match arrays.get(array) {
-        Some(elements) => elements.get_near(index, 0).0,
+        Some(elements) => elements.get_from(index, 0).0,
         None => None,
     }
 }
@@ -153,7 +153,7 @@ fn replace_in(elements: &mut Elements, index: &AnyIndex, value: &i64) -> Option<
     ensures elements { elements.new ≡ (set_value (is_at (index_cmp index.now)) elements.old.0 value.now, elements.old.1) }
 {
     let number = *value;
-    let (was, place) = elements.get_near(index, 0);
+    let (was, place) = elements.get_from(index, 0);
     match was {
         Some(_) => {
             elements.set_near(index, number, place);
@@ -245,15 +245,15 @@ fn is_set(arrays: &BTreeMap<Name, Elements>, change: &CellChange) -> bool
 // Whether each change of cells of a row sets an element that is there.
 fn are_entries_set<I: PieceKey>(
     arrays: &BTreeMap<Name, Elements>,
-    row: &Row,
+    row: &IndexedRow,
     changes: &[(I, Option<i64>)],
 ) -> bool
     ensures { result ≡ list_all (is_set (element_in arrays.now.entries)) (row_changes I.as_index row.now changes.now) }
 {
     match row {
-        Row::Inside(_) => changes.is_empty(),
-        Row::Members(_) => changes.is_empty(),
-        Row::Elements(array) => match arrays.get(array) {
+        IndexedRow::Inside(_) => changes.is_empty(),
+        IndexedRow::Members(_) => changes.is_empty(),
+        IndexedRow::Elements(array) => match arrays.get(array) {
             Some(elements) => I::are_set(elements, changes),
             None => changes.is_empty(),
         },
@@ -261,13 +261,13 @@ fn are_entries_set<I: PieceKey>(
 }
 
 // Whether each change at the indices of a rectangle sets an element that is there.
-fn is_block_set<B: Block>(arrays: &BTreeMap<Name, Elements>, block: &B) -> bool
+fn is_block_set<B: ChangeBlock>(arrays: &BTreeMap<Name, Elements>, block: &B) -> bool
     ensures { result ≡ list_all (is_set (element_in arrays.now.entries)) (packed_changes (B.row_of block.now) (B.entries block.now)) }
 {
     match block.of_row() {
-        Row::Inside(_) => block.many() == 0,
-        Row::Members(_) => block.many() == 0,
-        Row::Elements(array) => match arrays.get(&array) {
+        IndexedRow::Inside(_) => block.many() == 0,
+        IndexedRow::Members(_) => block.many() == 0,
+        IndexedRow::Elements(array) => match arrays.get(&array) {
             Some(elements) => is_block_there(elements, block),
             None => block.many() == 0,
         },
@@ -287,17 +287,17 @@ fn are_labels_set(arrays: &BTreeMap<Name, Elements>, labels: &LabelChanges) -> b
 }
 
 // Whether each change of a run sets an element that is there.
-fn is_run_set(arrays: &BTreeMap<Name, Elements>, form: &Form) -> bool
+fn is_run_set(arrays: &BTreeMap<Name, Elements>, form: &RunForm) -> bool
     ensures { result ≡ list_all (is_set (element_in arrays.now.entries)) (changes_in form.now) }
 {
     match form {
-        Form::One(change) => is_set(arrays, change),
-        Form::Line(packed) => are_entries_set(arrays, packed.row(), packed.changes()),
-        Form::Plane(packed) => are_entries_set(arrays, packed.row(), packed.changes()),
-        Form::Solid(packed) => are_entries_set(arrays, packed.row(), packed.changes()),
-        Form::Labels(labels) => are_labels_set(arrays, labels),
-        Form::Rectangle(block) => is_block_set(arrays, block),
-        Form::Numbers(block) => is_block_set(arrays, block),
+        RunForm::One(change) => is_set(arrays, change),
+        RunForm::Rank1(packed) => are_entries_set(arrays, packed.row(), packed.changes()),
+        RunForm::Rank2(packed) => are_entries_set(arrays, packed.row(), packed.changes()),
+        RunForm::Rank3(packed) => are_entries_set(arrays, packed.row(), packed.changes()),
+        RunForm::Labels(labels) => are_labels_set(arrays, labels),
+        RunForm::Rectangle(block) => is_block_set(arrays, block),
+        RunForm::Numbers(block) => is_block_set(arrays, block),
     }
 }
 
@@ -363,7 +363,7 @@ fn set_elements<I: PieceKey>(
 // Makes changes of cells of a row, each of which sets an element that is there.
 fn set_entries<I: PieceKey>(
     arrays: &mut BTreeMap<Name, Elements>,
-    row: &Row,
+    row: &IndexedRow,
     changes: &[(I, Option<i64>)],
 )
     requires { list_all (is_set (element_in arrays.old.entries)) (row_changes I.as_index row.now changes.now) ≡ true }
@@ -373,14 +373,14 @@ fn set_entries<I: PieceKey>(
     ensures lie { (b : List ℕ) → option_map (λ p. p.1) (array_in arrays.new.entries b) ≡ option_map (λ p. p.1) (array_in arrays.old.entries b) }
 {
     match row {
-        Row::Inside(_) => {}
-        Row::Members(_) => {}
-        Row::Elements(array) => set_elements(arrays, array, changes),
+        IndexedRow::Inside(_) => {}
+        IndexedRow::Members(_) => {}
+        IndexedRow::Elements(array) => set_elements(arrays, array, changes),
     }
 }
 
 // Sets the elements of an array that are there at indices of a rectangle.
-fn set_over<B: Block>(arrays: &mut BTreeMap<Name, Elements>, array: &Name, block: &B)
+fn set_over<B: ChangeBlock>(arrays: &mut BTreeMap<Name, Elements>, array: &Name, block: &B)
     ensures arrays { (b : List ℕ) → array_in arrays.new.entries b ≡ cond (is_same_name array.now b)
         (with_elements point_index (array_in arrays.old.entries b) (B.entries block.now)) (array_in arrays.old.entries b) }
     ensures names { keys_of arrays.new.entries ≡ keys_of arrays.old.entries }
@@ -392,7 +392,7 @@ fn set_over<B: Block>(arrays: &mut BTreeMap<Name, Elements>, array: &Name, block
 }
 
 // Makes changes of cells of a row at the indices of a rectangle, each of which sets an element that is there.
-fn set_block<B: Block>(arrays: &mut BTreeMap<Name, Elements>, block: &B)
+fn set_block<B: ChangeBlock>(arrays: &mut BTreeMap<Name, Elements>, block: &B)
     requires { list_all (is_set (element_in arrays.old.entries)) (packed_changes (B.row_of block.now) (B.entries block.now)) ≡ true }
     ensures agree { (s : Cells) → Agree arrays.old.entries s → Agree arrays.new.entries (apply (packed_changes (B.row_of block.now) (B.entries block.now)) s) }
     ensures there { (b : List ℕ) (i : Index) → is_some (element_in arrays.new.entries b i) ≡ is_some (element_in arrays.old.entries b i) }
@@ -400,9 +400,9 @@ fn set_block<B: Block>(arrays: &mut BTreeMap<Name, Elements>, block: &B)
     ensures lie { (b : List ℕ) → option_map (λ p. p.1) (array_in arrays.new.entries b) ≡ option_map (λ p. p.1) (array_in arrays.old.entries b) }
 {
     match block.of_row() {
-        Row::Inside(_) => {}
-        Row::Members(_) => {}
-        Row::Elements(array) => set_over(arrays, &array, block),
+        IndexedRow::Inside(_) => {}
+        IndexedRow::Members(_) => {}
+        IndexedRow::Elements(array) => set_over(arrays, &array, block),
     }
 }
 
@@ -420,7 +420,7 @@ fn set_labels(arrays: &mut BTreeMap<Name, Elements>, labels: &LabelChanges)
 }
 
 // Makes the changes of a run, each of which sets an element that is there.
-fn set_run(arrays: &mut BTreeMap<Name, Elements>, form: &Form)
+fn set_run(arrays: &mut BTreeMap<Name, Elements>, form: &RunForm)
     requires { list_all (is_set (element_in arrays.old.entries)) (changes_in form.now) ≡ true }
     ensures agree { (s : Cells) → Agree arrays.old.entries s → Agree arrays.new.entries (apply (changes_in form.now) s) }
     ensures there { (b : List ℕ) (i : Index) → is_some (element_in arrays.new.entries b i) ≡ is_some (element_in arrays.old.entries b i) }
@@ -428,13 +428,13 @@ fn set_run(arrays: &mut BTreeMap<Name, Elements>, form: &Form)
     ensures lie { (b : List ℕ) → option_map (λ p. p.1) (array_in arrays.new.entries b) ≡ option_map (λ p. p.1) (array_in arrays.old.entries b) }
 {
     match form {
-        Form::One(change) => set_one(arrays, change),
-        Form::Line(packed) => set_entries(arrays, packed.row(), packed.changes()),
-        Form::Plane(packed) => set_entries(arrays, packed.row(), packed.changes()),
-        Form::Solid(packed) => set_entries(arrays, packed.row(), packed.changes()),
-        Form::Labels(labels) => set_labels(arrays, labels),
-        Form::Rectangle(block) => set_block(arrays, block),
-        Form::Numbers(block) => set_block(arrays, block),
+        RunForm::One(change) => set_one(arrays, change),
+        RunForm::Rank1(packed) => set_entries(arrays, packed.row(), packed.changes()),
+        RunForm::Rank2(packed) => set_entries(arrays, packed.row(), packed.changes()),
+        RunForm::Rank3(packed) => set_entries(arrays, packed.row(), packed.changes()),
+        RunForm::Labels(labels) => set_labels(arrays, labels),
+        RunForm::Rectangle(block) => set_block(arrays, block),
+        RunForm::Numbers(block) => set_block(arrays, block),
     }
 }
 

@@ -10,4 +10,3 @@ mod moving;
 mod shelf;
 
 pub use crate::shelf::Book;
-pub use wb_elements::{AsIndex, Elements, Form, Pairs};

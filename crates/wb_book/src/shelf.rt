@@ -1,6 +1,6 @@
 ghost use Rattle.std.specs.Prelude.{◌≡◌, IfOk, IfErr, OnOk, OnErr, Err, IfSome, IfNone, IsSome, option_map};
 ghost use Rattle.selective_undo.specs.Changes.{apply, inverse, AllOnce};
-ghost use Rattle.wb_cells.specs.Cells.{cell_cmp, written_more, count_of};
+ghost use Rattle.wb_cells.specs.Cells.{cell_cmp, saturating_add, count_of};
 ghost use Rattle.wb_cells.specs.declared.cells.cell.Cell.TheVariants.{Element};
 ghost use Rattle.wb_cells.specs.declared.cells.value.Value.TheVariants.{Number};
 ghost use Rattle.wb_book.specs.Kept.{element_set};
@@ -125,7 +125,7 @@ impl Book {
         // What it was, the cells, and how many were set so far.
         ensures was { map.get self.old.cells (Element array.now index.now) ≡ option_map Number result }
         ensures cells { IfSome result (λ was. self.new.cells ≡ apply (element_set array.now index.now value) self.old.cells) }
-        ensures writes { IfSome result (λ was. self.new.writes ≡ written_more self.old.writes 1) }
+        ensures writes { IfSome result (λ was. self.new.writes ≡ saturating_add self.old.writes 1) }
 
         // Where there is no element, nothing has changed.
         ensures none { IfNone result (self.new ≡ self.old) }
@@ -164,7 +164,7 @@ impl Book {
         // What takes them back, the cells, and how many were set so far.
         ensures inverse { IfOk result (λ i. i ≡ inverse delta self.old.cells) }
         ensures cells { OnOk result (self.new.cells ≡ apply delta self.old.cells) }
-        ensures writes { OnOk result (self.new.writes ≡ written_more self.old.writes (count_of delta)) }
+        ensures writes { OnOk result (self.new.writes ≡ saturating_add self.old.writes (count_of delta)) }
 
         // After an error nothing has changed, and the changes come back.
         ensures err { OnErr result (self.new ≡ self.old) }
@@ -195,7 +195,7 @@ impl Book {
         requires once { AllOnce cell_cmp before.now }
         requires well_formed { IsWellFormed (apply before.now self.old.cells) }
         ensures cells { OnOk result (self.new.cells ≡ apply before.now self.old.cells) }
-        ensures writes { OnOk result (self.new.writes ≡ written_more self.old.writes (count_of before.now)) }
+        ensures writes { OnOk result (self.new.writes ≡ saturating_add self.old.writes (count_of before.now)) }
         ensures err { OnErr result (self.new ≡ self.old) }
         ensures no_thread { result ≡ Err MoveErr.NoThread → V.may_lack_threads mover.now }
     {

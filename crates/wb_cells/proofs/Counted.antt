@@ -1,6 +1,6 @@
 -- How many of the changes of a row are counted.
 use Rattle.std.proofs.Common.{◌≡◌, ℤ, List, [], ◌∷◌, length, zero, suc, Option, refl, ap}
-use Rattle.wb_cells.specs.declared.changes.row.Row.TheVariants.{Inside, Members, Elements}
+use Rattle.wb_cells.specs.declared.changes.row.IndexedRow.TheVariants.{Inside, Members, Elements}
 use Rattle.wb_cells.specs.Cells.{Name, count_of}
 use Rattle.wb_cells.specs.Runs.{packed_changes}
 

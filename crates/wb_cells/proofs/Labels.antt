@@ -1,5 +1,5 @@
 -- Labels in one list of bytes, and changes at labels.
-use Rattle.std.proofs.Common.{◌≡◌, ℕ, ◌+◌, ◌-◌, ◌≤◌, ◌<◌, ℤ, List, [], ◌∷◌, ◌++◌, length, map, take, drop, zero, suc, Option}
+use Rattle.std.proofs.Common.{◌≡◌, ℕ, ◌+◌, ◌-◌, ◌≤◌, ℤ, List, [], ◌∷◌, ◌++◌, length, map, take, drop, zero, suc, Option}
 use Rattle.std.proofs.Common.{length-append, length-drop, refl, sym, ap, subst, ◌∙◌, arith}
 use Rattle.std.specs.List.{All}
 use Rattle.std.specs.Prelude.{Bool, true, false, if◌then◌else◌, Result, Ok, Err, is_ok, is_err}
@@ -7,8 +7,7 @@ use Rattle.std.proofs.lemmas.List.{map-append, take-append-le, drop-append-le, d
 use Rattle.std.proofs.lemmas.List.Elements.{All-head, All-tail, All-push, All-weaker}
 use Rattle.wb_sets.specs.Labels.{IsLabel}
 use Rattle.wb_cells.specs.declared.changes.labels.LabelEntry.{LabelEntry}
-use Rattle.wb_cells.specs.declared.changes.row.Row.{Row}
-use Rattle.wb_cells.specs.declared.changes.row.Row.TheVariants.{Inside, Members, Elements}
+use Rattle.wb_cells.specs.declared.changes.row.IndexedRow.TheVariants.{Inside, Members, Elements}
 use Rattle.wb_cells.specs.Cells.{Name, count_of}
 use Rattle.wb_cells.specs.Labelled.{label_in, number_in, entry_in, entries_in, IsKept}
 use Rattle.wb_cells.specs.Runs.{labelled_changes}

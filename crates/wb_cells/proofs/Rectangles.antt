@@ -16,8 +16,8 @@ use Rattle.wb_range.specs.Domain.{IsListedOnce}
 use Rattle.wb_rect.specs.Product.{product}
 use Rattle.wb_cells.specs.declared.cells.cell.Cell.{Cell}
 use Rattle.wb_cells.specs.declared.cells.cell.Cell.TheVariants.{In, Member, Element}
-use Rattle.wb_cells.specs.declared.changes.row.Row.{Row}
-use Rattle.wb_cells.specs.declared.changes.row.Row.TheVariants.{Inside, Members, Elements}
+use Rattle.wb_cells.specs.declared.changes.row.IndexedRow.{IndexedRow}
+use Rattle.wb_cells.specs.declared.changes.row.IndexedRow.TheVariants.{Inside, Members, Elements}
 use Rattle.wb_cells.specs.declared.values.index.Index.{Index}
 use Rattle.wb_cells.specs.declared.values.index.Index.TheVariants.{Point}
 use Rattle.wb_cells.specs.Cells.{Changes, cell_cmp, cell_order}
@@ -28,27 +28,27 @@ use Rattle.wb_cells.proofs.Shown.{last_of, once-push}
 
 -- ---- how many
 
-pub length_rectangle : (row : Row) (rs : List (List ℤ)) (n : Option ℤ) → length (packed_changes row (rectangle_entries rs n)) ≡ length (indices rs)
+pub length_rectangle : (row : IndexedRow) (rs : List (List ℤ)) (n : Option ℤ) → length (packed_changes row (rectangle_entries rs n)) ≡ length (indices rs)
 length_rectangle row rs n =
     length-map (rectangle_entries rs n) (change_at row) ∙ length-map (product rs) (λ p. (p, n)) ∙ sym (length-map (product rs) Point)
 
-pub length_numbered : (row : Row) (rs : List (List ℤ)) (ns : List ℤ) →
+pub length_numbered : (row : IndexedRow) (rs : List (List ℤ)) (ns : List ℤ) →
     length (packed_changes row (numbered_entries rs ns)) ≡ min (length (indices rs)) (length ns)
 length_numbered row rs ns =
     length-map (numbered_entries rs ns) (change_at row) ∙ length-zip (product rs) (map (λ n. Some n) ns)
     ∙ ap (λ k. min k (length (map (λ n. Some n) ns))) (sym (length-map (product rs) Point))
     ∙ ap (min (length (indices rs))) (length-map ns (λ n. Some n))
 
-pub numbered_short : (row : Row) (rs : List (List ℤ)) (ns : List ℤ) → length ns ≤ length (indices rs) →
+pub numbered_short : (row : IndexedRow) (rs : List (List ℤ)) (ns : List ℤ) → length ns ≤ length (indices rs) →
     length ns ≡ length (packed_changes row (numbered_entries rs ns))
 numbered_short row rs ns few = sym (length_numbered row rs ns ∙ min-eq_right few)
 
-pub numbered_full : (row : Row) (rs : List (List ℤ)) (ns : List ℤ) → length (indices rs) ≤ length ns →
+pub numbered_full : (row : IndexedRow) (rs : List (List ℤ)) (ns : List ℤ) → length (indices rs) ≤ length ns →
     length (indices rs) ≡ length (packed_changes row (numbered_entries rs ns))
 numbered_full row rs ns many = sym (length_numbered row rs ns ∙ min-eq_left many)
 
 -- there are as many indices, and as many numbers, at least
-pub numbered_within : (row : Row) (rs : List (List ℤ)) (ns : List ℤ) (at : ℕ) → at < length (packed_changes row (numbered_entries rs ns)) →
+pub numbered_within : (row : IndexedRow) (rs : List (List ℤ)) (ns : List ℤ) (at : ℕ) → at < length (packed_changes row (numbered_entries rs ns)) →
     (at < length (indices rs)) × (at < length ns)
 numbered_within row rs ns at within =
     let n = length (indices rs) in
@@ -68,12 +68,12 @@ get-zip (l ∷ ks) (y ∷ xs) zero k x e f =
     ap (λ z. Some (z, y)) a ∙ ap (λ z. Some (k, z)) b
 get-zip (l ∷ ks) (y ∷ xs) (suc i) k x e f = get-zip ks xs i k x e f
 
-entry_at : (row : Row) (es : List (List ℤ × Option ℤ)) (at : ℕ) (e : List ℤ × Option ℤ) → slice_get es at ≡ Some e →
+entry_at : (row : IndexedRow) (es : List (List ℤ × Option ℤ)) (at : ℕ) (e : List ℤ × Option ℤ) → slice_get es at ≡ Some e →
     slice_get (packed_changes row es) at ≡ Some (change_at row e)
 entry_at row es at e is = slice_get-map (change_at row) es at ∙ ap (option_map (change_at row)) is
 
 -- what stands at a place of the changes of a rectangle
-pub rectangle_at : (row : Row) (rs : List (List ℤ)) (n : Option ℤ) (at : ℕ) (i : Index) → slice_get (indices rs) at ≡ Some i →
+pub rectangle_at : (row : IndexedRow) (rs : List (List ℤ)) (n : Option ℤ) (at : ℕ) (i : Index) → slice_get (indices rs) at ≡ Some i →
     slice_get (packed_changes row (rectangle_entries rs n)) at ≡ Some (record { cell = cell_of row i; value = option_map (value_of row) n })
 rectangle_at row rs n at i e =
     let p = point_there (slice_get (product rs) at) i (sym (get-map Point (product rs) at) ∙ e) in
@@ -82,7 +82,7 @@ rectangle_at row rs n at i e =
     ∙ ap (λ (j : Index). Some (record { cell = cell_of row j; value = option_map (value_of row) n })) p.2
 
 -- the same of those with a number each
-pub numbered_at : (row : Row) (rs : List (List ℤ)) (ns : List ℤ) (at : ℕ) (i : Index) (n : ℤ) → slice_get (indices rs) at ≡ Some i → slice_get ns at ≡ Some n →
+pub numbered_at : (row : IndexedRow) (rs : List (List ℤ)) (ns : List ℤ) (at : ℕ) (i : Index) (n : ℤ) → slice_get (indices rs) at ≡ Some i → slice_get ns at ≡ Some n →
     slice_get (packed_changes row (numbered_entries rs ns)) at ≡ Some (record { cell = cell_of row i; value = Some (value_of row n) })
 numbered_at row rs ns at i n e f =
     let p = point_there (slice_get (product rs) at) i (sym (get-map Point (product rs) at) ∙ e) in
@@ -98,7 +98,7 @@ later p ps once = λ i j x e f. let same : suc i ≡ suc j = once (suc i) (suc j
 unlike : (c d : Cell) → (c ≡ d → ⊥) → eq_by_cmp cell_cmp c d ≡ false
 unlike c d other = not_true _ λ e. other (cell_order.strict c d ((Equal-is (cell_cmp c d)).0 e))
 
-differs : (row : Row) (p q : List ℤ) → (q ≡ p → ⊥) → eq_by_cmp cell_cmp (cell_of row (Point q)) (cell_of row (Point p)) ≡ false
+differs : (row : IndexedRow) (p q : List ℤ) → (q ≡ p → ⊥) → eq_by_cmp cell_cmp (cell_of row (Point q)) (cell_of row (Point p)) ≡ false
 differs (Inside d) p q other = unlike _ _ λ (e : In d (Point q) ≡ In d (Point p)). other cc
 differs (Members d) p q other = unlike _ _ λ (e : Member d (Point q) ≡ Member d (Point p)). other cc
 differs (Elements a) p q other = unlike _ _ λ (e : Element a (Point q) ≡ Element a (Point p)). other cc
@@ -108,7 +108,7 @@ nothing_behind [] = refl
 nothing_behind (x ∷ xs) = ap (λ ys. x ∷ ys) (nothing_behind xs)
 
 -- the cells of a row at some points, each of them once and none there yet
-once_with : (xs : Changes) (row : Row) (es : List (List ℤ × Option ℤ)) → AllOnce cell_cmp xs → IsListedOnce (map (λ e. e.0) es) →
+once_with : (xs : Changes) (row : IndexedRow) (es : List (List ℤ × Option ℤ)) → AllOnce cell_cmp xs → IsListedOnce (map (λ e. e.0) es) →
     ((q : ℕ) (p : List ℤ) → slice_get (map (λ e. e.0) es) q ≡ Some p → changes cell_cmp xs (cell_of row (Point p)) ≡ false) →
     AllOnce cell_cmp (xs ++ packed_changes row es)
 once_with xs row [] once listed new = subst (AllOnce cell_cmp) (nothing_behind xs) once
@@ -140,19 +140,19 @@ once-zip : (ps : List (List ℤ)) (ms : List (Option ℤ)) → IsListedOnce ps �
 once-zip ps ms once = λ i j p e f. once i j p (in_front ps ms i p e) (in_front ps ms j p f)
 
 -- changes at some points were added, or none was
-once_packed : {E : Type 0} (r : Result (Unit {0}) E) (xs ys : Changes) (row : Row) (es : List (List ℤ × Option ℤ)) →
+once_packed : {E : Type 0} (r : Result (Unit {0}) E) (xs ys : Changes) (row : IndexedRow) (es : List (List ℤ × Option ℤ)) →
     OnOk r (ys ≡ xs ++ packed_changes row es) → OnErr r (ys ≡ xs) → AllOnce cell_cmp xs → IsListedOnce (map (λ e. e.0) es) →
     ((i : Index) → changes cell_cmp xs (cell_of row i) ≡ false) → AllOnce cell_cmp ys
 once_packed (Ok u) xs ys row es ok err once listed new = rw ok (once_with xs row es once listed (λ q p e. new (Point p)))
 once_packed (Err e) xs ys row es ok err once listed new = rw err once
 
-pub once_rectangle : {E : Type 0} (r : Result (Unit {0}) E) (xs ys : Changes) (row : Row) (rs : List (List ℤ)) (n : Option ℤ) →
+pub once_rectangle : {E : Type 0} (r : Result (Unit {0}) E) (xs ys : Changes) (row : IndexedRow) (rs : List (List ℤ)) (n : Option ℤ) →
     OnOk r (ys ≡ xs ++ packed_changes row (rectangle_entries rs n)) → OnErr r (ys ≡ xs) → AllOnce cell_cmp xs → IsListedOnce (indices rs) →
     ((i : Index) → changes cell_cmp xs (cell_of row i) ≡ false) → AllOnce cell_cmp ys
 once_rectangle r xs ys row rs n ok err once listed new =
     once_packed r xs ys row (rectangle_entries rs n) ok err once (subst IsListedOnce (sym (firsts-with n (product rs))) (of_indices (product rs) listed)) new
 
-pub once_numbered : {E : Type 0} (r : Result (Unit {0}) E) (xs ys : Changes) (row : Row) (rs : List (List ℤ)) (ns : List ℤ) →
+pub once_numbered : {E : Type 0} (r : Result (Unit {0}) E) (xs ys : Changes) (row : IndexedRow) (rs : List (List ℤ)) (ns : List ℤ) →
     OnOk r (ys ≡ xs ++ packed_changes row (numbered_entries rs ns)) → OnErr r (ys ≡ xs) → AllOnce cell_cmp xs → IsListedOnce (indices rs) →
     ((i : Index) → changes cell_cmp xs (cell_of row i) ≡ false) → AllOnce cell_cmp ys
 once_numbered r xs ys row rs ns ok err once listed new =

@@ -142,5 +142,5 @@ abbrev pub count_of : Changes → ℕ
 count_of xs = length (filter (λ x. is_counted x.cell) xs)
 
 -- a count that stops at the greatest `u128`
-abbrev pub written_more : ℕ → ℕ → ℕ
-written_more n k = min (n + k) (2 ^ 128 - 1)
+abbrev pub saturating_add : ℕ → ℕ → ℕ
+saturating_add n k = min (n + k) (2 ^ 128 - 1)

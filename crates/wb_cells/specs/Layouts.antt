@@ -7,8 +7,8 @@ use Rattle.wb_rect.specs.Product.{IsRectangle}
 use Rattle.wb_dist.specs.Maps.{LayoutMap, whole, block, cyclic, block_cyclic, is_layout, locale_of}
 use Rattle.wb_cells.specs.declared.values.index.Index.{Index}
 use Rattle.wb_cells.specs.declared.values.index.Index.TheVariants.{Point, Text}
-use Rattle.wb_cells.specs.declared.values.layout.Laid.{Laid}
-use Rattle.wb_cells.specs.declared.values.layout.Laid.TheVariants.{Whole, Line, Plane, Solid}
+use Rattle.wb_cells.specs.declared.values.layout.LayoutByRank.{LayoutByRank}
+use Rattle.wb_cells.specs.declared.values.layout.LayoutByRank.TheVariants.{Whole, Rank1, Rank2, Rank3}
 
 -- ---- for which rank
 
@@ -47,11 +47,11 @@ locale_in m (Text t) = None
 
 -- ---- a mapping by its rank, and back
 
-abbrev pub map_of : Laid → LayoutMap
+abbrev pub map_of : LayoutByRank → LayoutMap
 map_of Whole = whole
-map_of (Line m) = m
-map_of (Plane m) = m
-map_of (Solid m) = m
+map_of (Rank1 m) = m
+map_of (Rank2 m) = m
+map_of (Rank3 m) = m
 
 -- a mapping for domains of the rank and no other
 abbrev pub IsDealt : ℕ → LayoutMap → Type 0
@@ -60,16 +60,16 @@ IsDealt rank (block m) = (length m.grid ≡ rank) × IsMapping rank (block m)
 IsDealt rank (cyclic m) = (length m.grid ≡ rank) × IsMapping rank (cyclic m)
 IsDealt rank (block_cyclic m) = (length m.grid ≡ rank) × IsMapping rank (block_cyclic m)
 
-abbrev pub IsLaid : Laid → Type 0
+abbrev pub IsLaid : LayoutByRank → Type 0
 IsLaid Whole = ⊤
-IsLaid (Line m) = IsDealt 1 m
-IsLaid (Plane m) = IsDealt 2 m
-IsLaid (Solid m) = IsDealt 3 m
+IsLaid (Rank1 m) = IsDealt 1 m
+IsLaid (Rank2 m) = IsDealt 2 m
+IsLaid (Rank3 m) = IsDealt 3 m
 
-abbrev pub by_rank : ℕ → LayoutMap → Laid
-by_rank rank m = if nat_eq rank 1 then Line m else if nat_eq rank 2 then Plane m else Solid m
+abbrev pub by_rank : ℕ → LayoutMap → LayoutByRank
+by_rank rank m = if nat_eq rank 1 then Rank1 m else if nat_eq rank 2 then Rank2 m else Rank3 m
 
-abbrev pub of_map : LayoutMap → Laid
+abbrev pub of_map : LayoutMap → LayoutByRank
 of_map whole = Whole
 of_map (block m) = by_rank (length m.grid) (block m)
 of_map (cyclic m) = by_rank (length m.grid) (cyclic m)
@@ -82,8 +82,8 @@ dealt rank (cyclic m) h = rw h.0 refl
 dealt rank (block_cyclic m) h = rw h.0 refl
 
 -- the mapping comes back from what is seen of it
-pub of_map-map_of : (l : Laid) → IsLaid l → of_map (map_of l) ≡ l
+pub of_map-map_of : (l : LayoutByRank) → IsLaid l → of_map (map_of l) ≡ l
 of_map-map_of Whole h = refl
-of_map-map_of (Line m) h = dealt 1 m h
-of_map-map_of (Plane m) h = dealt 2 m h
-of_map-map_of (Solid m) h = dealt 3 m h
+of_map-map_of (Rank1 m) h = dealt 1 m h
+of_map-map_of (Rank2 m) h = dealt 2 m h
+of_map-map_of (Rank3 m) h = dealt 3 m h

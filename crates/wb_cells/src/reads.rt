@@ -8,7 +8,8 @@ ghost use Rattle.wb_cells.specs.Reads.{one_of};
 ghost use Rattle.wb_cells.specs.Reads.{all_read, read_in, patterns_of};
 
 use crate::{
-    AnyRect, Cell, CellChange, Changes, Form, IndexedChange, Pattern, RectangleChanges, Row,
+    AnyRect, Cell, CellChange, Changes, IndexedChange, IndexedRow, Pattern, RectangleChanges,
+    RunForm,
 };
 use std::alloc::Global;
 use wb_range::NoMemory;
@@ -103,12 +104,12 @@ pub fn put(alloc: Global, runs: &mut Vec<ReadRun>, pattern: &Pattern) -> Result<
 }
 
 // The cells of a row at every index of a rectangle, as a list of cells.
-fn rectangle_cells(alloc: Global, row: &Row, ranges: &AnyRect) -> Result<Changes, NoMemory>
+fn rectangle_cells(alloc: Global, row: &IndexedRow, ranges: &AnyRect) -> Result<Changes, NoMemory>
     ensures { IfOk result (λ cells. patterns_of cells ≡ map one_of (map (cell_of row.now) (indices ranges.now))) }
 {
     let mut cells = Changes::new();
     let cleared = RectangleChanges::new(*row, *ranges, None);
-    cells.push_run(alloc, Form::Rectangle(cleared))?;
+    cells.push_run(alloc, RunForm::Rectangle(cleared))?;
     Ok(cells)
 }
 
@@ -117,7 +118,7 @@ fn rectangle_cells(alloc: Global, row: &Row, ranges: &AnyRect) -> Result<Changes
 pub fn put_rectangle(
     alloc: Global,
     runs: &mut Vec<ReadRun>,
-    row: &Row,
+    row: &IndexedRow,
     ranges: &AnyRect,
 ) -> Result<(), NoMemory>
     ensures ok { OnOk result (all_read runs.new.items ≡ all_read runs.old.items ++ map one_of (map (cell_of row.now) (indices ranges.now))) }

@@ -5,7 +5,7 @@ use thiserror::Error;
 
 /// Why an edit is refused.
 #[derive(Clone, Copy, Debug, PartialEq, Eq, Error)]
-pub enum Refusal {
+pub enum WhyRefused {
     /// E03: an object of that name is there.
     #[error("name-taken")]
     NameTaken,
@@ -41,23 +41,23 @@ pub enum Refusal {
     Empty,
 }
 
-impl Refusal {
+impl WhyRefused {
     /// Whether the refusals are equal.
-    pub fn is_same(self, other: Refusal) -> bool
+    pub fn is_same(self, other: WhyRefused) -> bool
         ensures { Decides result (self ≡ other) }
     {
         match (self, other) {
-            (Refusal::NameTaken, Refusal::NameTaken) => true,
-            (Refusal::NoSuchName, Refusal::NoSuchName) => true,
-            (Refusal::WrongKind, Refusal::WrongKind) => true,
-            (Refusal::OutOfDomain, Refusal::OutOfDomain) => true,
-            (Refusal::OutOfParent, Refusal::OutOfParent) => true,
-            (Refusal::InUse, Refusal::InUse) => true,
-            (Refusal::TooLarge, Refusal::TooLarge) => true,
-            (Refusal::Overflow, Refusal::Overflow) => true,
-            (Refusal::BadMapping, Refusal::BadMapping) => true,
-            (Refusal::NotEmpty, Refusal::NotEmpty) => true,
-            (Refusal::Empty, Refusal::Empty) => true,
+            (WhyRefused::NameTaken, WhyRefused::NameTaken) => true,
+            (WhyRefused::NoSuchName, WhyRefused::NoSuchName) => true,
+            (WhyRefused::WrongKind, WhyRefused::WrongKind) => true,
+            (WhyRefused::OutOfDomain, WhyRefused::OutOfDomain) => true,
+            (WhyRefused::OutOfParent, WhyRefused::OutOfParent) => true,
+            (WhyRefused::InUse, WhyRefused::InUse) => true,
+            (WhyRefused::TooLarge, WhyRefused::TooLarge) => true,
+            (WhyRefused::Overflow, WhyRefused::Overflow) => true,
+            (WhyRefused::BadMapping, WhyRefused::BadMapping) => true,
+            (WhyRefused::NotEmpty, WhyRefused::NotEmpty) => true,
+            (WhyRefused::Empty, WhyRefused::Empty) => true,
             _ => false,
         }
     }
@@ -68,7 +68,7 @@ impl Refusal {
 #[error("{why}")]
 pub struct EditRefusal {
     /// Why its command is refused, or the first one that is, where it has several.
-    pub why: Refusal,
+    pub why: WhyRefused,
     /// The place of that command, from 0, where the edit has several.
     pub at: Option<u16>,
 }

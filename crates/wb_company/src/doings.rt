@@ -47,7 +47,7 @@ impl Doing {
         }
     }
 
-    /// The same once more.
+    /// An equal one.
     pub fn copy(&self) -> Doing
         ensures { result ≡ self.now }
     {

@@ -68,7 +68,7 @@ fn push_doing(out: &mut String, doing: &Doing) -> Result<(), AllocError>
     push_seat(out, doing.seat)
 }
 
-// The same of further ones, each after a comma.
+// The objects of what seats did with further edits, each after a comma.
 fn push_more_doings(out: &mut String, rest: &[Doing]) -> Result<(), AllocError>
     ensures { OnOk result (string_bytes out.new ≡ string_bytes out.old ++ flat_map (further doing_text) rest.now) }
 {
@@ -78,7 +78,7 @@ fn push_more_doings(out: &mut String, rest: &[Doing]) -> Result<(), AllocError>
     Ok(())
 }
 
-// The same after a comma.
+// A comma, and the object of what a seat did with an edit.
 fn push_further_doing(out: &mut String, doing: &Doing) -> Result<(), AllocError>
     ensures { OnOk result (string_bytes out.new ≡ string_bytes out.old ++ further doing_text doing.now) }
 {
@@ -86,7 +86,7 @@ fn push_further_doing(out: &mut String, doing: &Doing) -> Result<(), AllocError>
     push_doing(out, doing)
 }
 
-// The same of all, separated by commas.
+// The objects of what seats did, separated by commas.
 fn push_doings(out: &mut String, doings: &[Doing]) -> Result<(), AllocError>
     ensures { OnOk result (string_bytes out.new ≡ string_bytes out.old ++ join_by doing_text (codes ",") doings.now) }
 {
@@ -119,7 +119,7 @@ fn push_guest(out: &mut String, guest: &Guest) -> Result<(), AllocError>
     push_seat(out, guest.seat)
 }
 
-// The same of further ones, each after a comma.
+// The objects of who has further seats, each after a comma.
 fn push_more_guests(out: &mut String, rest: &[Guest]) -> Result<(), AllocError>
     ensures { OnOk result (string_bytes out.new ≡ string_bytes out.old ++ flat_map (further guest_text) rest.now) }
 {
@@ -129,7 +129,7 @@ fn push_more_guests(out: &mut String, rest: &[Guest]) -> Result<(), AllocError>
     Ok(())
 }
 
-// The same after a comma.
+// A comma, and the object of who has a seat.
 fn push_further_guest(out: &mut String, guest: &Guest) -> Result<(), AllocError>
     ensures { OnOk result (string_bytes out.new ≡ string_bytes out.old ++ further guest_text guest.now) }
 {
@@ -137,7 +137,7 @@ fn push_further_guest(out: &mut String, guest: &Guest) -> Result<(), AllocError>
     push_guest(out, guest)
 }
 
-// The same of all, separated by commas.
+// The objects of who has seats, separated by commas.
 fn push_guests(out: &mut String, guests: &[Guest]) -> Result<(), AllocError>
     ensures { OnOk result (string_bytes out.new ≡ string_bytes out.old ++ join_by guest_text (codes ",") guests.now) }
 {

@@ -10,11 +10,11 @@ use Rattle.std.proofs.lemmas.List.{get_or_past, length-set, get_or-set_other}
 use Rattle.std.proofs.lemmas.List.Elements.{filter-append, All-append, All-cons, All-nil}
 use Rattle.std.proofs.lemmas.List.Sums.{sum_by-set, sum_by_push}
 use Rattle.wb_history.specs.Past.{Past}
-use Rattle.wb_log.specs.declared.refusal.Refusal.TheVariants.{StrangePass}
-use Rattle.wb_protocol.specs.Machine.{Step}
-use Rattle.wb_protocol.specs.declared.replies.reply.Reply.{Reply}
-use Rattle.wb_protocol.specs.declared.replies.reply.Reply.TheVariants.{Refused}
-use Rattle.wb_protocol.specs.declared.requests.request.Request.{Request}
+use Rattle.wb_edit.specs.declared.refusal.Refusal.TheVariants.{StrangePass}
+use Rattle.wb_requests.specs.declared.requests.request.Request.{Request}
+use Rattle.wb_machine.specs.Machine.{Step}
+use Rattle.wb_machine.specs.declared.replies.reply.Reply.{Reply}
+use Rattle.wb_machine.specs.declared.replies.reply.Reply.TheVariants.{Refused}
 use Rattle.wb_desk.specs.declared.entry.Entry.{Entry}
 use Rattle.wb_desk.specs.Entries.{of_seat, is_entered}
 use Rattle.wb_desk.specs.Courses.{Course, Marked, Runs, Tells, all_of, done_of, kept_of, with_entry, settled_seat, list_of, count_of, empty_lists}

@@ -1,7 +1,7 @@
 -- What a call at a desk is answered, and what an early settlement of a seat shows.
 use Rattle.std.specs.Prelude.{◌≡◌, ℕ, List}
-use Rattle.wb_protocol.specs.declared.replies.reply.Reply.{Reply}
-use Rattle.wb_protocol.specs.declared.requests.request.Request.{Request}
+use Rattle.wb_requests.specs.declared.requests.request.Request.{Request}
+use Rattle.wb_machine.specs.declared.replies.reply.Reply.{Reply}
 use Rattle.wb_desk.specs.declared.entry.Entry.{Entry}
 use Rattle.wb_desk.specs.declared.settling.Difference.{Difference}
 use Rattle.wb_desk.specs.Courses.{Course, IsCourse, Marked, Start, Tells, list_of}

@@ -4,12 +4,12 @@ use Rattle.wb_cells.specs.Cells.{Name}
 use Rattle.wb_cells.specs.declared.values.index.Index.{Index}
 use Rattle.wb_edit.specs.Trees.{plain}
 use Rattle.wb_history.specs.declared.query.Answer.TheVariants as answers
-use Rattle.wb_history.specs.declared.query.Query.TheVariants as queries
-use Rattle.wb_log.specs.declared.refusal.Refusal.TheVariants as refusals
-use Rattle.wb_protocol.specs.declared.replies.reply.Reply.{Reply}
-use Rattle.wb_protocol.specs.declared.replies.reply.Reply.TheVariants as replies
-use Rattle.wb_protocol.specs.declared.requests.request.Request.{Request}
-use Rattle.wb_protocol.specs.declared.requests.request.Request.TheVariants as asked
+use Rattle.wb_edit.specs.declared.query.Query.TheVariants as queries
+use Rattle.wb_edit.specs.declared.refusal.Refusal.TheVariants as refusals
+use Rattle.wb_requests.specs.declared.requests.request.Request.{Request}
+use Rattle.wb_requests.specs.declared.requests.request.Request.TheVariants as asked
+use Rattle.wb_machine.specs.declared.replies.reply.Reply.{Reply}
+use Rattle.wb_machine.specs.declared.replies.reply.Reply.TheVariants as replies
 use Rattle.wb_desk.specs.declared.at_index.Told.{Told}
 use Rattle.wb_desk.specs.declared.at_index.Told.TheVariants.{Element, Locale, NoElement, NoLocale}
 use Rattle.wb_desk.specs.declared.plain.Plain.{Plain}

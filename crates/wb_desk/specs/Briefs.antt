@@ -5,9 +5,9 @@ use Rattle.wb_cells.specs.declared.values.index.Index.{Index}
 use Rattle.wb_cells.specs.declared.values.index.Index.TheVariants.{Point}
 use Rattle.wb_edit.specs.declared.command.Command.TheVariants as commands
 use Rattle.wb_edit.specs.declared.edit.Edit.TheVariants as edits
-use Rattle.wb_history.specs.declared.query.Query.TheVariants as queries
-use Rattle.wb_protocol.specs.declared.requests.request.Request.{Request}
-use Rattle.wb_protocol.specs.declared.requests.request.Request.TheVariants.{Change, Ask}
+use Rattle.wb_edit.specs.declared.query.Query.TheVariants as queries
+use Rattle.wb_requests.specs.declared.requests.request.Request.{Request}
+use Rattle.wb_requests.specs.declared.requests.request.Request.TheVariants.{Change, Ask}
 use Rattle.wb_desk.specs.declared.brief.Brief.{Brief}
 use Rattle.wb_desk.specs.declared.brief.Spot.{Spot}
 use Rattle.wb_desk.specs.declared.brief.Spot.TheVariants.{Single, Pair, Triple}

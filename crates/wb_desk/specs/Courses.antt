@@ -4,7 +4,7 @@ use Rattle.std.specs.Prelude.{◌≡◌, ℕ, ◌<◌, ◌-◌, ◌^◌, Bool, t
 use Rattle.std.specs.List.{All, sum_by}
 use Rattle.std.specs.Coded.{Coded, code_by, coded×, coded_list, coded_ℕ}
 use Rattle.wb_history.specs.Past.{Past, past_code}
-use Rattle.wb_protocol.specs.Machine.{Step}
+use Rattle.wb_machine.specs.Machine.{Step}
 use Rattle.wb_desk.specs.contracts.entry.Entry as entry_row
 use Rattle.wb_desk.specs.declared.entry.Entry.{Entry}
 use Rattle.wb_desk.specs.Entries.{of_seat, is_entered}

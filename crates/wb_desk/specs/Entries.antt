@@ -1,13 +1,13 @@
 -- The entries of a journal: what each seat asked, and what it was replied.
 use Rattle.std.specs.Prelude.{ℕ, Bool, true, false, ◌==◌, List, filter, Option, Some, None}
-use Rattle.wb_log.specs.declared.refusal.Refusal.{Refusal}
-use Rattle.wb_log.specs.declared.refusal.Refusal.TheVariants.{BadRequest, BadLiteral, Refused as EditRefused}
-use Rattle.wb_log.specs.declared.refusal.Refusal.TheVariants.{NoSuchEdit, NotInForce, InForce, Blocked}
-use Rattle.wb_log.specs.declared.refusal.Refusal.TheVariants.{RefusedInPlace, NoMemory, StrangePass}
-use Rattle.wb_protocol.specs.declared.replies.reply.Reply.{Reply}
-use Rattle.wb_protocol.specs.declared.replies.reply.Reply.TheVariants.{Edited, Undone, Cascaded, Redone, Listed, Answered, Printed, PrintedFrom, Counted, Explained, Refused}
-use Rattle.wb_protocol.specs.declared.requests.request.Request.{Request}
-use Rattle.wb_protocol.specs.declared.requests.request.Request.TheVariants.{Change, Undo, Redo, Cascade, Dependents, Ask, Print, History, Edits, Explain}
+use Rattle.wb_edit.specs.declared.refusal.Refusal.{Refusal}
+use Rattle.wb_edit.specs.declared.refusal.Refusal.TheVariants.{BadRequest, BadLiteral, Refused as EditRefused}
+use Rattle.wb_edit.specs.declared.refusal.Refusal.TheVariants.{NoSuchEdit, NotInForce, InForce, Blocked}
+use Rattle.wb_edit.specs.declared.refusal.Refusal.TheVariants.{RefusedInPlace, NoMemory, StrangePass}
+use Rattle.wb_requests.specs.declared.requests.request.Request.{Request}
+use Rattle.wb_requests.specs.declared.requests.request.Request.TheVariants.{Change, Undo, Redo, Cascade, Dependents, Ask, Print, History, Edits, Explain}
+use Rattle.wb_machine.specs.declared.replies.reply.Reply.{Reply}
+use Rattle.wb_machine.specs.declared.replies.reply.Reply.TheVariants.{Edited, Undone, Cascaded, Redone, Listed, Answered, Printed, PrintedFrom, Counted, Explained, Refused}
 use Rattle.wb_desk.specs.declared.entry.Entry.{Entry}
 
 -- the entries of a seat, in order

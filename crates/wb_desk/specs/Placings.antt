@@ -1,7 +1,7 @@
 -- Where the name of a request stands in the tables of two lists.
 use Rattle.std.specs.Prelude.{◌≡◌, ℕ, [], ◌∷◌, ◌++◌}
 use Rattle.wb_cells.specs.Cells.{Name}
-use Rattle.wb_protocol.specs.declared.requests.request.Request.{Request}
+use Rattle.wb_requests.specs.declared.requests.request.Request.{Request}
 use Rattle.wb_desk.specs.declared.entry.Entry.{Entry}
 use Rattle.wb_desk.specs.declared.placing.Placed.{Placed}
 use Rattle.wb_desk.specs.declared.register.Register.{Register}

@@ -6,12 +6,12 @@ use Rattle.wb_cells.specs.Cells.{Name}
 use Rattle.wb_edit.specs.Trees.{plain}
 use Rattle.wb_history.specs.declared.query.Answer.{Answer}
 use Rattle.wb_history.specs.declared.query.Answer.TheVariants as answers
-use Rattle.wb_history.specs.declared.query.Query.TheVariants as queries
-use Rattle.wb_log.specs.declared.refusal.Refusal.TheVariants as refusals
-use Rattle.wb_protocol.specs.declared.replies.reply.Reply.{Reply}
-use Rattle.wb_protocol.specs.declared.replies.reply.Reply.TheVariants.{Edited, Undone, Cascaded, Redone, Listed, Answered, Printed, PrintedFrom, Counted, Explained, Refused}
-use Rattle.wb_protocol.specs.declared.requests.request.Request.{Request}
-use Rattle.wb_protocol.specs.declared.requests.request.Request.TheVariants.{Change, Undo, Redo, Cascade, Dependents, Ask, Print, History, Edits, Explain}
+use Rattle.wb_edit.specs.declared.query.Query.TheVariants as queries
+use Rattle.wb_edit.specs.declared.refusal.Refusal.TheVariants as refusals
+use Rattle.wb_requests.specs.declared.requests.request.Request.{Request}
+use Rattle.wb_requests.specs.declared.requests.request.Request.TheVariants.{Change, Undo, Redo, Cascade, Dependents, Ask, Print, History, Edits, Explain}
+use Rattle.wb_machine.specs.declared.replies.reply.Reply.{Reply}
+use Rattle.wb_machine.specs.declared.replies.reply.Reply.TheVariants.{Edited, Undone, Cascaded, Redone, Listed, Answered, Printed, PrintedFrom, Counted, Explained, Refused}
 use Rattle.wb_desk.specs.declared.entry.Entry.{Entry}
 use Rattle.wb_desk.specs.declared.entry.LentEntry.{LentEntry}
 use Rattle.wb_desk.specs.declared.entry.LentEntry.TheVariants.{Own, Lent, Replied as LentReply, OfLine as LentLine}

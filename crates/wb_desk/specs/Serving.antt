@@ -1,11 +1,11 @@
 -- How a desk answers one request of a pass.
 use Rattle.std.specs.Prelude.{◌≡◌, ℕ, ◌+◌, ◌<◌, true, false, MatchBool, List, [], ◌∷◌, ◌++◌, length, slice_set, zero, suc, refl}
 use Rattle.std.specs.Coded.{Coded, code_by, coded×, coded_list, coded_ℕ}
-use Rattle.wb_log.specs.declared.refusal.Refusal.TheVariants.{StrangePass}
-use Rattle.wb_protocol.specs.Machine.{Step}
-use Rattle.wb_protocol.specs.declared.replies.reply.Reply.{Reply}
-use Rattle.wb_protocol.specs.declared.replies.reply.Reply.TheVariants.{Refused}
-use Rattle.wb_protocol.specs.declared.requests.request.Request.{Request}
+use Rattle.wb_edit.specs.declared.refusal.Refusal.TheVariants.{StrangePass}
+use Rattle.wb_requests.specs.declared.requests.request.Request.{Request}
+use Rattle.wb_machine.specs.Machine.{Step}
+use Rattle.wb_machine.specs.declared.replies.reply.Reply.{Reply}
+use Rattle.wb_machine.specs.declared.replies.reply.Reply.TheVariants.{Refused}
 use Rattle.wb_desk.specs.contracts.entry.Entry as entry_row
 use Rattle.wb_desk.specs.declared.entry.Entry.{Entry}
 use Rattle.wb_desk.specs.Entries.{is_entered}

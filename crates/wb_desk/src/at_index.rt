@@ -3,18 +3,20 @@
 ghost use Rattle.std.specs.Prelude.{◌≡◌, ℕ, List, IfSome};
 ghost use Rattle.wb_cells.specs.declared.values.index.Index.{Index as any_index};
 ghost use Rattle.wb_edit.specs.Trees.{plain};
-ghost use Rattle.wb_history.specs.declared.query.Query.TheVariants as queries;
-ghost use Rattle.wb_log.specs.declared.refusal.Refusal.TheVariants.{Refused};
-ghost use Rattle.wb_protocol.specs.declared.requests.request.Request.TheVariants as asked;
+ghost use Rattle.wb_edit.specs.declared.query.Query.TheVariants as queries;
+ghost use Rattle.wb_edit.specs.declared.refusal.Refusal.TheVariants.{Refused};
+ghost use Rattle.wb_requests.specs.declared.requests.request.Request.TheVariants as asked;
 ghost use Rattle.wb_desk.specs.Asked.{reply_at, request_at};
 
-use wb_cells::{AnyIndex, EditRefusal, Name, Refusal as WhyRefused};
-use wb_history::{Answer, Query, Refusal};
-use wb_protocol::{Reply, Request};
+use wb_cells::{AnyIndex, EditRefusal, Name, WhyRefused};
+use wb_edit::{Query, Refusal};
+use wb_history::Answer;
+use wb_machine::Reply;
+use wb_requests::Request;
 
 /// What was asked at an index, and what that was answered.
 #[derive(Clone, Copy)]
-pub enum Told {
+pub(crate) enum Told {
     /// The element of an array.
     Element(i64),
     /// The locale of an index of a domain.
@@ -27,7 +29,7 @@ pub enum Told {
 
 /// A question at an index, with its answer.
 #[derive(Drop)]
-pub struct AskedAt {
+pub(crate) struct AskedAt {
     pub name: Name,
     pub at: AnyIndex,
     pub told: Told,

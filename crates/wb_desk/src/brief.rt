@@ -3,19 +3,18 @@
 ghost use Rattle.std.specs.Prelude.{◌≡◌, ℕ, List, [], ◌∷◌, IfSome};
 ghost use Rattle.wb_edit.specs.declared.command.Command.TheVariants as commands;
 ghost use Rattle.wb_edit.specs.declared.edit.Edit.TheVariants as edits;
-ghost use Rattle.wb_protocol.specs.declared.requests.request.Request.TheVariants as asked;
-ghost use Rattle.wb_history.specs.declared.query.Query.TheVariants as queries;
+ghost use Rattle.wb_requests.specs.declared.requests.request.Request.TheVariants as asked;
+ghost use Rattle.wb_edit.specs.declared.query.Query.TheVariants as queries;
 ghost use Rattle.wb_desk.specs.Briefs.{coordinates_in, point_of, request_of, set_of};
 
 use wb_arrays::Op;
 use wb_cells::{AnyIndex, Index, Name, Point};
-use wb_edit::{Command, Edit};
-use wb_history::Query;
-use wb_protocol::Request;
+use wb_edit::{Command, Edit, Query};
+use wb_requests::Request;
 
 /// What is asked of an array or a domain, but for its name: a new value of an element, or a question.
 #[derive(Clone, Copy)]
-pub enum Brief {
+pub(crate) enum Brief {
     /// A new value of the element at an integer.
     Set(i64, i64),
     /// A new value of the element at a pair of small integers.
@@ -42,7 +41,7 @@ pub enum Brief {
 
 /// The coordinates of an index.
 #[derive(Drop)]
-pub enum Spot {
+pub(crate) enum Spot {
     /// An integer.
     Single(i64),
     /// A pair.

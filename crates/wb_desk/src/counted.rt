@@ -14,7 +14,8 @@ use crate::settling::Difference;
 use std::alloc::Global;
 use std::sync::ledger::{Book, Ledger};
 use wb_arrays::Mover;
-use wb_protocol::{Reply, Request};
+use wb_machine::Reply;
+use wb_requests::Request;
 
 /// A journal, and the book of a ledger.
 #[derive(Drop)]

@@ -21,7 +21,8 @@ use thiserror::Error;
 use wb_arrays::Mover;
 use wb_history::History;
 use wb_locks::take_lock;
-use wb_protocol::{Reply, Request};
+use wb_machine::Reply;
+use wb_requests::Request;
 
 /// Why there is no desk.
 #[derive(Clone, Copy, Debug, PartialEq, Eq, Error)]

@@ -2,8 +2,8 @@
 
 ghost use Rattle.std.specs.Prelude.{◌≡◌, ◌&&◌, ◌++◌, ◌∷◌, [], length, true, false, IfOk, IfSome, OnOk, OnErr};
 ghost use Rattle.std.specs.Arc.{arc_value};
-ghost use Rattle.wb_protocol.specs.Machine.{Step};
-ghost use Rattle.wb_protocol.specs.declared.requests.request.Request.TheVariants as asked;
+ghost use Rattle.wb_requests.specs.declared.requests.request.Request.TheVariants as asked;
+ghost use Rattle.wb_machine.specs.Machine.{Step};
 ghost use Rattle.wb_desk.specs.declared.brief.Brief.TheVariants as briefs;
 ghost use Rattle.wb_desk.specs.Asked.{is_of_line, plain_request, reply_at, request_at};
 ghost use Rattle.wb_desk.specs.Briefs.{is_new_value, request_of};
@@ -25,8 +25,9 @@ use std::alloc::Global;
 use std::sync::Arc;
 use wb_arrays::Mover;
 use wb_history::History;
-use wb_protocol::{LineText, Reply, Request, answer_request};
+use wb_machine::{Reply, answer_request};
 use wb_range::NoMemory;
+use wb_requests::{LineText, Request};
 
 // Enters one entry in two lists, which share it.
 fn enter_shared(

@@ -2,12 +2,13 @@
 
 ghost use Rattle.std.specs.Prelude.{◌≡◌, IfOk};
 ghost use Rattle.std.specs.Bool.{Decides};
-ghost use Rattle.wb_protocol.specs.declared.requests.request.Request.TheVariants as asked;
+ghost use Rattle.wb_requests.specs.declared.requests.request.Request.TheVariants as asked;
 ghost use Rattle.wb_desk.specs.Records.{lent_entry};
 
 use std::alloc::Global;
-use wb_protocol::{LineText, Reply, Request};
+use wb_machine::Reply;
 use wb_range::NoMemory;
+use wb_requests::{LineText, Request};
 
 /// What a seat asked, and what it was replied.
 #[derive(Drop)]

@@ -2,7 +2,7 @@
 
 ghost use Rattle.std.specs.Prelude.{◌≡◌, ◌<◌, ◌&&◌, ℕ, List, length, None, false, IfSome};
 ghost use Rattle.wb_history.specs.declared.query.Answer.TheVariants as answers;
-ghost use Rattle.wb_protocol.specs.declared.replies.reply.Reply.TheVariants as replies;
+ghost use Rattle.wb_machine.specs.declared.replies.reply.Reply.TheVariants as replies;
 ghost use Rattle.wb_desk.specs.Asked.{plain_request, reply_at, request_at};
 ghost use Rattle.wb_desk.specs.Briefs.{request_of, is_new_value};
 ghost use Rattle.wb_desk.specs.Records.{IsWithin, is_edited, lent_entry, name_at, shown};
@@ -15,14 +15,16 @@ use crate::plain::{Plain, plain_request};
 use std::alloc::Global;
 use std::sync::Arc;
 use wb_arrays::Op;
-use wb_cells::{AnyIndex, EditRefusal, Name, Refusal as WhyRefused};
-use wb_history::{Answer, Query, Refusal};
-use wb_protocol::{Reply, Request};
+use wb_cells::{AnyIndex, EditRefusal, Name, WhyRefused};
+use wb_edit::{Query, Refusal};
+use wb_history::Answer;
+use wb_machine::Reply;
+use wb_requests::Request;
 
 /// How an entry is kept. A name is its place in a table; the seat is that of the list. What takes memory of its own is kept once
 /// for two lists.
 #[derive(Drop)]
-pub enum Form {
+pub(crate) enum Form {
     /// A new value at an integer, the number of its edit, and how many cells that changed.
     Set(u16, i64, i64, u64, usize),
     /// A new value at a pair, the number of its edit, and how many cells that changed.

@@ -14,9 +14,11 @@ use std::alloc::Global;
 use std::marker::Model;
 use std::sync::ledger::Ledger;
 use wb_arrays::Mover;
-use wb_history::{History, Refusal};
-use wb_protocol::{Reply, Request};
+use wb_edit::Refusal;
+use wb_history::History;
+use wb_machine::Reply;
 use wb_range::NoMemory;
+use wb_requests::Request;
 
 /// A history, and of each seat a list of what it asked and was replied since the opening, but for what was settled early.
 /// Contracts see it as a course.

@@ -7,12 +7,12 @@ ghost use Rattle.wb_desk.specs.Placings.{AreNamed, IsPlaced};
 use crate::brief::{Brief, brief_of};
 use crate::register::Register;
 use wb_cells::Name;
-use wb_protocol::Request;
 use wb_range::NoMemory;
+use wb_requests::Request;
 
 /// A request of a name in few bytes, and where the name stands in the tables of two lists.
 #[derive(Drop)]
-pub struct Placed {
+pub(crate) struct Placed {
     pub name: Name,
     pub brief: Brief,
     pub first: u16,

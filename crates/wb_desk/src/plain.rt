@@ -1,15 +1,15 @@
 //! Questions that are of no name and of no line.
 
 ghost use Rattle.std.specs.Prelude.{◌≡◌, IfSome};
-ghost use Rattle.wb_protocol.specs.declared.requests.request.Request.TheVariants as asked;
+ghost use Rattle.wb_requests.specs.declared.requests.request.Request.TheVariants as asked;
 ghost use Rattle.wb_desk.specs.Asked.{is_of_line, plain_request};
 
-use wb_history::Query;
-use wb_protocol::Request;
+use wb_edit::Query;
+use wb_requests::Request;
 
 /// A question that is of no name and of no line.
 #[derive(Clone, Copy)]
-pub enum Plain {
+pub(crate) enum Plain {
     /// Whether the edit of a number is in force.
     State(u64),
     /// Which edits need the edit of a number.

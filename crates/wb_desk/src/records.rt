@@ -2,7 +2,7 @@
 
 ghost use Rattle.std.specs.Prelude.{◌≡◌, ◌<◌, ◌-◌, ◌++◌, ◌∷◌, [], true, length, slice_get, slice_set, IfOk, OnOk, OnErr, MatchOption};
 ghost use Rattle.std.specs.Bool.{Decides};
-ghost use Rattle.wb_protocol.specs.Machine.{Step};
+ghost use Rattle.wb_machine.specs.Machine.{Step};
 ghost use Rattle.wb_desk.specs.Courses.{empty_lists, list_of};
 ghost use Rattle.wb_desk.specs.Entries.{is_entered};
 ghost use Rattle.wb_desk.specs.Records.{lent_in};
@@ -16,8 +16,9 @@ use std::alloc::Global;
 use std::marker::Model;
 use wb_arrays::Mover;
 use wb_history::History;
-use wb_protocol::{Reply, Request};
+use wb_machine::Reply;
 use wb_range::NoMemory;
+use wb_requests::Request;
 
 /// The entries of a seat that are kept, in order, each in the form that takes the least room. Contracts see the entries.
 pub struct Records {

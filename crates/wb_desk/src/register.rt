@@ -20,7 +20,7 @@ const NAMES_LOOKED_AT: usize = 256;
 
 /// Entries in their forms, which speak of names by their places in a table. The forms of few bytes are of one seat.
 #[derive(Drop)]
-pub struct Register {
+pub(crate) struct Register {
     seat: usize,
     names: Vec<Name>,
     // Where a name stood last, by a number of the name. It may stand elsewhere now.

@@ -2,8 +2,8 @@
 ghost use Rattle.std.specs.Prelude.{◌≡◌, Bool, true, false, None, Ok, IfOk, OnErr};
 ghost use Rattle.wb_history.specs.Cascades.{DependentsReply, OfNumber};
 ghost use Rattle.wb_history.specs.Past.{meant};
-ghost use Rattle.wb_protocol.specs.Machine.{Step};
-ghost use Rattle.wb_protocol.specs.declared.requests.request.Request.TheVariants.{Cascade};
+ghost use Rattle.wb_requests.specs.declared.requests.request.Request.TheVariants.{Cascade};
+ghost use Rattle.wb_machine.specs.Machine.{Step};
 ghost use Rattle.wb_desk.specs.Entries.{is_told, is_entered, is_long, cascade_in};
 ghost use Rattle.wb_desk.specs.Records.{is_question};
 ghost use Rattle.wb_desk.specs.Serving.{entry};
@@ -11,9 +11,12 @@ ghost use Rattle.wb_desk.specs.Serving.{entry};
 use crate::entry::Entry;
 use std::alloc::Global;
 use wb_arrays::Mover;
-use wb_history::{History, Refusal, Undoer};
-use wb_protocol::{EditNumbers, Reply, Request, answer_request};
+use wb_edit::Refusal;
+use wb_history::History;
+use wb_log::Undoer;
+use wb_machine::{EditNumbers, Reply, answer_request};
 use wb_range::NoMemory;
+use wb_requests::Request;
 
 fn is_told(refusal: Refusal) -> bool
     ensures { result ≡ is_told refusal }

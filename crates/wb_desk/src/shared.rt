@@ -16,8 +16,9 @@ use std::marker::Model;
 use std::sync::ledger::{Blank, Ledger, Share};
 use wb_arrays::Mover;
 use wb_history::History;
-use wb_protocol::{Reply, Request};
+use wb_machine::Reply;
 use wb_range::NoMemory;
+use wb_requests::Request;
 
 /// The locked value of a desk: the history, the journal, and the ledger's book.
 pub struct Shared<L: Opening> {

@@ -11,7 +11,8 @@ use crate::{Difference, Pass};
 use std::cell::Cell;
 use std::sync::{MutexGuard, Wait};
 use wb_arrays::Mover;
-use wb_protocol::{Reply, Request};
+use wb_machine::Reply;
+use wb_requests::Request;
 
 /// A turn at a desk. It takes the desk's lock for its first request, and holds it until it is let go. It has to be ended.
 pub struct Turn<'d, L: Opening> {

@@ -12,13 +12,13 @@ mod block_cyclic;
 mod cyclic;
 mod errors;
 mod grid;
-mod home;
 mod layout;
 mod place;
+mod single_locale;
 
 pub use block::Block;
 pub use block_cyclic::BlockCyclic;
 pub use cyclic::Cyclic;
 pub use errors::{BadMapping, PieceErr};
-pub use home::Home;
 pub use layout::{Distribution, Layout};
+pub use single_locale::SingleLocale;

@@ -11,7 +11,7 @@ use Rattle.wb_cells.specs.declared.values.index.Index.{Index}
 use Rattle.wb_cells.specs.Cells.{Name, Cells}
 use Rattle.wb_cells.specs.Reads.{one_of}
 use Rattle.wb_edit.specs.Reshaping.{member_cells}
-use Rattle.wb_edit.proofs.IndexedCells.{map-append}
+use Rattle.wb_edit.proofs.IndexedRows.{map-append}
 
 module _ (names : List Name) (is : List Index) (k : ℕ) (e : Name) (low : k < length names) (here : e ≡ get_or names k e) where
   cells_more : member_cells (take (k + 1) names) is ≡ member_cells (take k names) is ++ map (Member e) is

@@ -14,7 +14,7 @@ use Rattle.wb_cells.specs.declared.values.index.Index.{Index}
 use Rattle.wb_cells.specs.Cells.{Name, Changes, cell_cmp, cell_order, index_cmp}
 use Rattle.wb_edit.specs.Commands.{number_cells}
 use Rattle.wb_edit.specs.Writes.{set_to}
-use Rattle.wb_edit.proofs.IndexedCells.{changes-append, map-append}
+use Rattle.wb_edit.proofs.IndexedRows.{changes-append, map-append}
 use Rattle.wb_edit.proofs.Elements.{index_order}
 use Rattle.wb_reshape.proofs.Gets.{same_key}
 use Rattle.wb_reshape.proofs.Sorted.{first, second}

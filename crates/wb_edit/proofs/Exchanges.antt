@@ -19,30 +19,40 @@ use Rattle.wb_cells.specs.declared.cells.value.Value.TheVariants.{Number, Presen
 use Rattle.wb_cells.specs.declared.values.index.Index.{Index}
 use Rattle.wb_cells.specs.Cells.{Name, Changes, cell_cmp, cell_order, is_same_index}
 use Rattle.wb_cells.specs.Kinds.{kind_of}
-use Rattle.wb_cells.specs.WellFormed.{has}
+use Rattle.wb_cells.specs.WellFormed.{has, index_cell}
 use Rattle.wb_reshape.specs.Resized.{without, exchanged, elements_exchanged}
 use Rattle.wb_reshape.specs.Writes.{put_all, clear_all}
 use Rattle.wb_reshape.proofs.Gets.{same_key}
 use Rattle.wb_reshape.proofs.Without.{without-apart}
-use Rattle.wb_edit.specs.declared.indexed_cells.IndexedCells.{IndexedCells}
-use Rattle.wb_edit.specs.declared.indexed_cells.IndexedCells.TheVariants.{Membership}
+use Rattle.wb_cells.specs.declared.changes.row.IndexedRow.{IndexedRow}
 use Rattle.wb_edit.specs.Changed.{set_all, AreApart}
 use Rattle.wb_edit.specs.Commands.{cells_beside_indices}
-use Rattle.wb_edit.specs.Plans.{cell_at}
-use Rattle.wb_edit.proofs.IndexedCells.{changes-append, other_cells, elsewhere, get-take}
+use Rattle.wb_cells.specs.Runs.{cell_of}
+use Rattle.wb_edit.proofs.IndexedRows.{changes-append, other_cells, elsewhere, get-take}
 use Rattle.wb_edit.proofs.Elements.{index_order}
+
+-- cells that are the same at each index
+pub same_cells : (f g : Index → Cell) → ((i : Index) → f i ≡ g i) → (is : List Index) → map f is ≡ map g is
+same_cells f g h [] = refl
+same_cells f g h (i ∷ is) = ap (λ c. c ∷ map f is) (h i) ∙ ap (λ cs. g i ∷ cs) (same_cells f g h is)
+
+pub same_exchanged : (f g : Index → Cell) → ((i : Index) → f i ≡ g i) → (leaving coming : List Index) (v : Value) →
+    exchanged f leaving coming v ≡ exchanged g leaving coming v
+same_exchanged f g h leaving coming v =
+    ap (λ cs. clear_all cs ++ put_all (map f coming) v) (same_cells f g h leaving)
+    ∙ ap (λ cs. clear_all (map g leaving) ++ put_all cs v) (same_cells f g h coming)
 
 pub neither : (a b : Bool) → a ≡ false → b ≡ false → (a || b) ≡ false
 neither true b e f = cc
 neither false b e f = f
 
 -- the cell of an index that comes is none of those of the indices that leave
-pub coming_is_new : (indexed : IndexedCells) (old : Changes) (leaving coming : List Index) → ((i : Index) → changes cell_cmp old (cell_at indexed i) ≡ false) →
+pub coming_is_new : (row : IndexedRow) (old : Changes) (leaving coming : List Index) → ((i : Index) → changes cell_cmp old (cell_of row i) ≡ false) →
     AreApart leaving coming → (p : ℕ) (i : Index) → slice_get coming p ≡ Some i
-    → changes cell_cmp (old ++ set_all (map (cell_at indexed) leaving) None) (cell_at indexed i) ≡ false
-coming_is_new indexed old leaving coming fresh apart p i here =
-    changes-append old (set_all (map (cell_at indexed) leaving) None) (cell_at indexed i) ∙
-    neither _ _ (fresh i) (other_cells indexed None i leaving (λ q e. apart q p i e here))
+    → changes cell_cmp (old ++ set_all (map (cell_of row) leaving) None) (cell_of row i) ≡ false
+coming_is_new row old leaving coming fresh apart p i here =
+    changes-append old (set_all (map (cell_of row) leaving) None) (cell_of row i) ∙
+    neither _ _ (fresh i) (other_cells row None i leaving (λ q e. apart q p i e here))
 
 keys-take : (fs : List (Name × ℤ)) (k : ℕ) → keys_of (take k fs) ≡ take k (keys_of fs)
 keys-take [] zero = refl
@@ -100,7 +110,7 @@ module _ (leaving coming : List Index) where
       ∙ flat_map-append f (take k fs) (get_or fs k d ∷ [])
       ∙ ap (λ xs. elements_exchanged (take k fs) leaving coming ++ xs) (append-nil (f (get_or fs k d)))
 
-  membership_apart : (kind : Kind) (d a : Name) (i j : Index) → eq_by_cmp cell_cmp (Element a i) (cell_at (Membership kind d) j) ≡ false
+  membership_apart : (kind : Kind) (d a : Name) (i j : Index) → eq_by_cmp cell_cmp (Element a i) (index_cell kind d j) ≡ false
   membership_apart (over_rectangular rank) d a i j = refl
   membership_apart (over_sparse rank) d a i j = refl
   membership_apart (over_associative type) d a i j = refl
@@ -108,14 +118,14 @@ module _ (leaving coming : List Index) where
   -- no element is among the cells that say which indices are there
   pub elements_are_new : (kind : Kind) (d : Name) (old : Changes) → ((a : Name) (i : Index) → changes cell_cmp old (Element a i) ≡ false) →
       (a : Name) (i : Index)
-      → changes cell_cmp (old ++ exchanged (cell_at (Membership kind d)) leaving coming Present) (Element a i) ≡ false
+      → changes cell_cmp (old ++ exchanged (index_cell kind d) leaving coming Present) (Element a i) ≡ false
   elements_are_new kind d old fresh a i =
-      changes-append old (exchanged (cell_at (Membership kind d)) leaving coming Present) (Element a i)
-      ∙ neither _ _ (fresh a i) (none_exchanged (cell_at (Membership kind d)) Present (Element a i) (λ j. membership_apart kind d a i j))
+      changes-append old (exchanged (index_cell kind d) leaving coming Present) (Element a i)
+      ∙ neither _ _ (fresh a i) (none_exchanged (index_cell kind d) Present (Element a i) (λ j. membership_apart kind d a i j))
 
 -- the cells that say which indices a domain has are no others of it
 pub own_apart : (kind : DomainKind) (d : Name) (i : Index) →
-    changes cell_cmp (clear_all (cells_beside_indices d kind)) (cell_at (Membership (kind_of kind) d) i) ≡ false
+    changes cell_cmp (clear_all (cells_beside_indices d kind)) (index_cell (kind_of kind) d i) ≡ false
 own_apart (Rectangular rank) d i = refl
 own_apart (Sparse parent rank) d i = refl
 own_apart (Associative type) d i = refl

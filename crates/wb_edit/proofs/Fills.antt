@@ -18,7 +18,7 @@ use Rattle.wb_edit.specs.Plans.{Gives, Looks}
 use Rattle.wb_cells.specs.Reads.{one_of}
 use Rattle.wb_edit.specs.Resizing.{number_or_zero, implicits}
 use Rattle.wb_edit.specs.Rectangles.{read_all}
-use Rattle.wb_edit.proofs.IndexedCells.{map-append}
+use Rattle.wb_edit.proofs.IndexedRows.{map-append}
 use Rattle.wb_edit.proofs.Rectangles.{gives_all}
 use Rattle.wb_edit.proofs.Trees.{then_shown}
 

@@ -7,7 +7,7 @@ use Rattle.selective_undo.specs.Together.{together, both, refused_as, all_of, fo
 use Rattle.selective_undo.proofs.Together.{apply-together, both_trace, front_law}
 use Rattle.wb_cells.specs.declared.cells.pattern.Pattern.{Pattern}
 use Rattle.wb_cells.specs.declared.refusal.EditRefusal.{EditRefusal}
-use Rattle.wb_cells.specs.declared.refusal.Refusal.{Refusal}
+use Rattle.wb_cells.specs.declared.refusal.WhyRefused.{WhyRefused}
 use Rattle.wb_cells.specs.Cells.{Cells, Changes, cell_cmp, cell_order}
 use Rattle.wb_cells.specs.Schema.{workbook}
 use Rattle.wb_edit.specs.declared.command.Command.{Command}
@@ -99,7 +99,7 @@ made_more cs k c s q rs ss us ls ms xs low is made here next read laid = λ m.
     )
 
 -- What all come to once one of them is refused.
-pub refused_at : (cs : List Command) (k : ℕ) (c : Command) (s q : Cells) (rs ss us : List Pattern) (ls : Changes) (why : Refusal) → k < length cs →
+pub refused_at : (cs : List Command) (k : ℕ) (c : Command) (s q : Cells) (rs ss us : List Pattern) (ls : Changes) (why : WhyRefused) → k < length cs →
     c ≡ get_or cs k c → Made (take k cs) s rs ls ss → q ≡ apply ls s → outcome (command_meaning c) q ≡ Err (plain why) → us ≡ ss ++ reads (command_meaning c) q →
     (m : ℕ → EditRefusal → EditRefusal) → (outcome (meaning_of_all m cs) s ≡ Err (m k (plain why))) × (us ≡ rs ++ reads (meaning_of_all m cs) s)
 refused_at cs k c s q rs ss us ls why low is made here stop read = λ m.
@@ -143,7 +143,7 @@ next_here s q r ls ms xs here next laid =
 
 -- ---- the plan of all, where one is refused
 
-pub refused_all : (cs : List Command) (s q : Cells) (rs ss : List Pattern) (k : ℕ) (why : Refusal) → q ≡ s → rs ≡ [] →
+pub refused_all : (cs : List Command) (s q : Cells) (rs ss : List Pattern) (k : ℕ) (why : WhyRefused) → q ≡ s → rs ≡ [] →
     AttemptsAll cs q rs (Err (FirstRefused k why)) ss → IsPlanOfAll cs s (Err (AllRefused k why ss))
 refused_all cs s q rs ss k why here none stop = (
   stop.0,

@@ -4,8 +4,8 @@ use Rattle.wb_dist.specs.Maps.{LayoutMap, whole, block, cyclic, block_cyclic, is
 use Rattle.wb_cells.specs.declared.cells.kind.DomainKind.{DomainKind}
 use Rattle.wb_cells.specs.declared.cells.kind.DomainKind.TheVariants.{Rectangular, Sparse, Associative}
 use Rattle.wb_cells.specs.Layouts.{is_of_rank, IsMapping, IsLayout}
-use Rattle.wb_cells.specs.declared.refusal.Refusal.{Refusal}
-use Rattle.wb_cells.specs.declared.refusal.Refusal.TheVariants.{BadMapping}
+use Rattle.wb_cells.specs.declared.refusal.WhyRefused.{WhyRefused}
+use Rattle.wb_cells.specs.declared.refusal.WhyRefused.TheVariants.{BadMapping}
 use Rattle.wb_edit.specs.Kinds.{rank_of}
 use Rattle.wb_edit.specs.Layouts.{for_rank}
 
@@ -14,7 +14,7 @@ kind_is (Rectangular r) rank e = cc
 kind_is (Sparse parent r) rank e = cc
 kind_is (Associative type) rank e = cc
 
-abbrev fitting : Bool → Result (Unit {0}) Refusal
+abbrev fitting : Bool → Result (Unit {0}) WhyRefused
 fitting b = elim b [ true ↦ Ok tt | false ↦ Err BadMapping ]
 
 found : (b : Bool) (x : Unit {0}) → fitting b ≡ Ok x → b ≡ true

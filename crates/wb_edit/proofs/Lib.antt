@@ -1,5 +1,5 @@
 pub mod Trees
-pub mod IndexedCells
+pub mod IndexedRows
 pub mod Attempts
 pub mod Sums
 pub mod Rectangles

@@ -23,13 +23,13 @@ use Rattle.wb_cells.specs.Cells.{Name, Cells, Changes, cell_cmp, cell_order, mat
 use Rattle.wb_cells.specs.Readers.{object_of, objects}
 use Rattle.wb_cells.specs.WellFormed.{IsWellFormed, IsShape, IsMember, HasMapping, IsImplicit, IsElement, domain_in, array_in, ranges_in, inside_of, use_of}
 use Rattle.wb_cells.specs.WellFormed.{is_index_of_array}
-use Rattle.wb_cells.specs.declared.refusal.Refusal.{Refusal}
-use Rattle.wb_cells.specs.declared.refusal.Refusal.TheVariants.{NotEmpty}
+use Rattle.wb_cells.specs.declared.refusal.WhyRefused.{WhyRefused}
+use Rattle.wb_cells.specs.declared.refusal.WhyRefused.TheVariants.{NotEmpty}
 use Rattle.wb_edit.specs.Commands.{book_cells}
 use Rattle.wb_edit.specs.Objects.{is_empty}
 use Rattle.wb_cells.specs.Schema.{workbook}
 use Rattle.wb_edit.specs.Writes.{put_each}
-use Rattle.wb_edit.proofs.IndexedCells.{changes-append}
+use Rattle.wb_edit.proofs.IndexedRows.{changes-append}
 use Rattle.wb_reshape.proofs.Gets.{after, get-apply, same_key}
 use Rattle.wb_reshape.proofs.Sorted.{first, second}
 
@@ -114,7 +114,7 @@ nothing_there s h none (Element a i) = subst (λ v. IsElement (is_index_of_array
 
 -- ---- the first object tells whether there is one
 
-by_first : Option Name → Result (Unit {0}) Refusal
+by_first : Option Name → Result (Unit {0}) WhyRefused
 by_first None = Ok tt
 by_first (Some n) = Err NotEmpty
 

@@ -9,7 +9,7 @@ use Rattle.wb_cells.specs.Cells.{Name, Cells, Changes}
 use Rattle.wb_cells.specs.Kinds.{kind_of}
 use Rattle.wb_edit.specs.declared.attempt_err.AttemptErr.{AttemptErr}
 use Rattle.wb_edit.specs.Trees.{Tree, read}
-use Rattle.wb_edit.specs.Plans.{Attempts, Gives, stopped}
+use Rattle.wb_edit.specs.Plans.{Attempts, Gives, or_refused}
 use Rattle.wb_edit.specs.Resizing.{has_members, with_members}
 use Rattle.wb_edit.specs.Looks.{domain_named, fits, index_fits}
 use Rattle.wb_edit.proofs.Attempts.{goes_on, passes}
@@ -23,7 +23,7 @@ module _ (s : Cells) (d : Name) (i : Index) (next : Option Value → DomainKind 
 
   -- where the domain is there and may have the index, it is seen whether it has it
   pub reaches : (rs ss us : List Pattern) (kind : DomainKind) (r : Result Changes AttemptErr) → Gives (domain_named d) s rs kind ss →
-      stopped (has_members kind) ≡ Ok tt → stopped (fits (kind_of kind) i) ≡ Ok tt → Attempts (after_fits kind) s ss r us
+      or_refused (has_members kind) ≡ Ok tt → or_refused (fits (kind_of kind) i) ≡ Ok tt → Attempts (after_fits kind) s ss r us
       → Attempts (domain_named d after_kind) s rs r us
   reaches rs ss us kind r found set fitting rest =
       goes_on (domain_named d) s rs ss after_kind kind r us found (

@@ -9,22 +9,22 @@ use Rattle.wb_cells.specs.declared.cells.pattern.Pattern.{Pattern}
 use Rattle.wb_cells.specs.declared.values.index.Index.{Index}
 use Rattle.wb_cells.specs.Cells.{Name, Cells, Changes, index_cmp}
 use Rattle.wb_edit.specs.declared.operation.Operation.{Operation}
-use Rattle.wb_cells.specs.declared.refusal.Refusal.{Refusal}
-use Rattle.wb_cells.specs.declared.refusal.Refusal.TheVariants.{Overflow}
+use Rattle.wb_cells.specs.declared.refusal.WhyRefused.{WhyRefused}
+use Rattle.wb_cells.specs.declared.refusal.WhyRefused.TheVariants.{Overflow}
 use Rattle.wb_edit.specs.declared.attempt_err.AttemptErr.{AttemptErr}
 use Rattle.wb_edit.specs.declared.attempt_err.AttemptErr.TheVariants.{Refused, NoMemory}
 use Rattle.wb_edit.specs.Changed.{Judges, numbered, made_of, numbers_if, numbers_within}
 use Rattle.wb_edit.specs.Commands.{number_cells}
 use Rattle.wb_edit.specs.Elements.{result_of, results, all_kept_if, all_within}
 use Rattle.wb_edit.specs.Numbers.{is_i64, fits_integer}
-use Rattle.wb_edit.specs.Plans.{Attempts, Makes, stopped}
+use Rattle.wb_edit.specs.Plans.{Attempts, Makes, or_refused}
 use Rattle.wb_edit.specs.Trees.{judged, plain}
 use Rattle.wb_edit.proofs.Rectangles.{whole}
 use Rattle.wb_edit.proofs.SideBySide.{side_by_side, results_are, went_with, halted_with}
 
 -- ---- a judgement, and then its changes
 
-pub concludes : (s : Cells) (us : List Pattern) (a : Name) (j : Result (List (Index × ℤ)) Refusal) (r : Result Changes AttemptErr) → Judges (numbered a j) r →
+pub concludes : (s : Cells) (us : List Pattern) (a : Name) (j : Result (List (Index × ℤ)) WhyRefused) (r : Result Changes AttemptErr) → Judges (numbered a j) r →
     Attempts (judged j (λ zs. write (number_cells a zs))) s us r us
 concludes s us a (Ok zs) (Ok xs) e = let same : number_cells a zs ≡ xs = cc in (ap Ok same, sym (append-nil us))
 concludes s us a (Ok zs) (Err (Refused why)) e = let no : ⊥ = cc in absurd no
@@ -34,13 +34,13 @@ concludes s us a (Err stop) (Err (Refused why)) e = let same : stop ≡ why = cc
 concludes s us a (Err stop) (Err NoMemory) e = tt
 
 -- a refusal is the same of the changes
-pub refused : (a : Name) (j : Result (List (Index × ℤ)) Refusal) (why : AttemptErr) → Judges j (Err why) → Judges (numbered a j) (Err why)
+pub refused : (a : Name) (j : Result (List (Index × ℤ)) WhyRefused) (why : AttemptErr) → Judges j (Err why) → Judges (numbered a j) (Err why)
 refused a (Ok zs) (Refused why) e = let no : ⊥ = cc in absurd no
 refused a (Err stop) (Refused why) e = let same : stop ≡ why = cc in ap Err same
 refused a j NoMemory e = tt
 
 -- what was kept makes the changes
-pub kept : (a : Name) (j : Result (List (Index × ℤ)) Refusal) (zs : List (Index × ℤ)) (r : Result Changes AttemptErr) → j ≡ Ok zs →
+pub kept : (a : Name) (j : Result (List (Index × ℤ)) WhyRefused) (zs : List (Index × ℤ)) (r : Result Changes AttemptErr) → j ≡ Ok zs →
     Makes (number_cells a zs) r →
     Judges (numbered a j) r
 kept a j zs (Ok xs) e is = ap (numbered a) e ∙ ap Ok (sym is)
@@ -76,7 +76,7 @@ kept_with : (b : Bool) (ns zs : List ℤ) → numbers_if b ns ≡ Ok zs → (b �
 kept_with true ns zs e = let same : ns ≡ zs = cc in (refl, same)
 kept_with false ns zs e = cc
 
-out_with : (b : Bool) (ns : List ℤ) (why : Refusal) → numbers_if b ns ≡ Err why → (b ≡ false) × (Overflow ≡ why)
+out_with : (b : Bool) (ns : List ℤ) (why : WhyRefused) → numbers_if b ns ≡ Err why → (b ≡ false) × (Overflow ≡ why)
 out_with true ns why e = cc
 out_with false ns why e = let same : Overflow ≡ why = cc in (refl, same)
 
@@ -179,7 +179,7 @@ module _ (how : Operation) (xs ys : List ℤ) (alike : length xs ≡ length ys) 
   value : result_of how x y ≡ result_of how (get_or xs p d) (get_or ys p e)
   value = ap (λ n. result_of how n y) here ∙ ap (λ n. result_of how (get_or xs p d) n) there
 
-  pub next_number : (z : ℤ) (made more : List ℤ) → stopped (fits_integer (result_of how x y)) ≡ Ok z → made ≡ made_up_to how p xs ys →
+  pub next_number : (z : ℤ) (made more : List ℤ) → or_refused (fits_integer (result_of how x y)) ≡ Ok z → made ≡ made_up_to how p xs ys →
       list_all is_i64 (take p (made_of how xs ys)) ≡ true → more ≡ set made p z
       → (more ≡ made_up_to how (p + 1) xs ys) × (list_all is_i64 (take (p + 1) (made_of how xs ys)) ≡ true)
   next_number z made more given sofar within_64 is =
@@ -194,7 +194,7 @@ module _ (how : Operation) (xs ys : List ℤ) (alike : length xs ≡ length ys) 
         sym (ap (list_all is_i64) longer) ∙ within_more (take p (made_of how xs ys)) w within_64 one.0,
       )
 
-  pub halted : (why : AttemptErr) → stopped (fits_integer (result_of how x y)) ≡ Err why → Judges (numbers_within (made_of how xs ys)) (Err why)
+  pub halted : (why : AttemptErr) → or_refused (fits_integer (result_of how x y)) ≡ Err why → Judges (numbers_within (made_of how xs ys)) (Err why)
   halted why given =
       let w : ℤ = result_of how x y in
       let below : p < length ys = omega (arith, low, alike) in

@@ -1,8 +1,8 @@
 -- What a command writes names each cell once.
-pub mod IndexedCells
+pub mod IndexedRows
 pub mod Looks
 pub mod Sources
-use Rattle.std.proofs.Common.{◌≡◌, ℕ, zero, suc, false, ℤ, pos, ◌+ℤ◌, List, [], ◌∷◌, map, length, Option, Some, None, refl, subst}
+use Rattle.std.proofs.Common.{◌≡◌, ℕ, zero, suc, false, ℤ, pos, ◌+ℤ◌, List, [], ◌∷◌, map, length, Option, Some, None, refl}
 use Rattle.std.specs.FinMap.{get, entries, entries_sorted}
 use Rattle.std.specs.List.{zip}
 use Rattle.std.specs.Map.{keys_of}
@@ -14,7 +14,7 @@ use Rattle.wb_dist.specs.Maps.{LayoutMap}
 use Rattle.wb_cells.specs.declared.cells.cell.Cell.{Cell}
 use Rattle.wb_cells.specs.declared.cells.cell.Cell.TheVariants.{Object, Shape, In, Member, Mapping, Use, Implicit, Element}
 use Rattle.wb_cells.specs.declared.cells.kind.DomainKind.{DomainKind}
-use Rattle.wb_cells.specs.declared.cells.kind.DomainKind.TheVariants.{Rectangular, Sparse, Associative}
+use Rattle.wb_cells.specs.declared.cells.kind.DomainKind.TheVariants.{Sparse, Associative}
 use Rattle.wb_cells.specs.declared.cells.kind.KeyType.{KeyType}
 use Rattle.wb_cells.specs.declared.cells.kind.Kind.{Kind}
 use Rattle.wb_cells.specs.declared.cells.value.Binding.TheVariants.{Sparse}
@@ -37,7 +37,7 @@ use Rattle.wb_edit.specs.declared.asked_rectangle.AskedRectangle.TheVariants.{Ra
 use Rattle.wb_edit.specs.declared.command.Command.TheVariants.{Domain, Remap, Sparse, Assoc, Array, Set, Irv, Copy, Fill, Put, FillAll, DropArray, All, Add, Remove}
 use Rattle.wb_edit.specs.declared.command.Command.TheVariants.{DropDomain, Reshape}
 use Rattle.wb_edit.specs.declared.operation.Operation.{Operation}
-use Rattle.wb_cells.specs.declared.refusal.Refusal.TheVariants.{WrongKind}
+use Rattle.wb_cells.specs.declared.refusal.WhyRefused.TheVariants.{WrongKind}
 use Rattle.wb_edit.specs.Changed.{set_all}
 use Rattle.wb_edit.specs.Commands.{new_domain_changes, domain, remap, sparse, assoc, new_array_changes, array, set, irv, copy, fill, put_numbers, put, fill_all}
 use Rattle.wb_edit.specs.Commands.{dropped_cells}
@@ -56,11 +56,11 @@ use Rattle.wb_cells.specs.Schema.{workbook}
 use Rattle.wb_edit.specs.Looks.{is_free, domain_kind, array_kind, is_there, fits, domain_named, array_named, index_fits, element, domain_indices}
 use Rattle.wb_edit.specs.Users.{is_unused, unused}
 use Rattle.wb_edit.specs.Writes.{set_to, put_all, clear_all}
-use Rattle.wb_edit.proofs.IndexedCells.{elsewhere}
+use Rattle.wb_edit.proofs.IndexedRows.{elsewhere}
 use Rattle.wb_edit.proofs.Elements.{elements_ascend, elements_once}
 use Rattle.wb_edit.proofs.Loading.{puts_once}
 use Rattle.wb_edit.proofs.SideBySide.{kept_ascend}
-use Rattle.wb_edit.proofs.Once.IndexedCells.{once_numbered, once_indexed, once_resized, once_ended, once_seen}
+use Rattle.wb_edit.proofs.Once.IndexedRows.{once_numbered, once_indexed, once_resized, once_ended, once_seen}
 use Rattle.wb_edit.proofs.Once.Looks.{Once, once_read, once_judged, once_test, once_all, once_indices, rectangle_once, none_once, none_apart}
 use Rattle.wb_edit.proofs.Once.Sources.{resized_once, reshape_once}
 use Rattle.wb_text.specs.Texts.Books.{cells_in}

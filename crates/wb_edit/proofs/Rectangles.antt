@@ -13,7 +13,7 @@ use Rattle.wb_cells.specs.Cells.{Cells}
 use Rattle.wb_edit.specs.Plans.{Gives}
 use Rattle.wb_cells.specs.Reads.{one_of}
 use Rattle.wb_edit.specs.Rectangles.{read_all}
-use Rattle.wb_edit.proofs.IndexedCells.{take_more, map-append}
+use Rattle.wb_edit.proofs.IndexedRows.{take_more, map-append}
 use Rattle.wb_edit.proofs.Trees.{gives_read}
 
 -- all of a list

@@ -25,15 +25,15 @@ use Rattle.wb_cells.specs.Readers.{elements}
 use Rattle.wb_cells.specs.WellFormed.{IsWellFormed, IsElement, array_in, domain_at, array_at, is_index_of_array}
 use Rattle.wb_edit.specs.declared.operation.Operation.{Operation}
 use Rattle.wb_cells.specs.declared.refusal.EditRefusal.{EditRefusal}
-use Rattle.wb_cells.specs.declared.refusal.Refusal.{Refusal}
-use Rattle.wb_cells.specs.declared.refusal.Refusal.TheVariants.{Overflow}
+use Rattle.wb_cells.specs.declared.refusal.WhyRefused.{WhyRefused}
+use Rattle.wb_cells.specs.declared.refusal.WhyRefused.TheVariants.{Overflow}
 use Rattle.wb_edit.specs.declared.attempt_err.AttemptErr.{AttemptErr}
 use Rattle.wb_edit.specs.declared.attempt_err.AttemptErr.TheVariants.{Refused}
 use Rattle.wb_edit.specs.Changed.{Judges}
 use Rattle.wb_edit.specs.Elements.{result_of, value_at, results, all_kept_if, all_within, same_domain}
 use Rattle.wb_edit.specs.Trees.{Tree, judged}
 use Rattle.wb_edit.specs.Numbers.{is_i64, kept_if, fits_integer}
-use Rattle.wb_edit.specs.Plans.{Gives, stopped}
+use Rattle.wb_edit.specs.Plans.{Gives, or_refused}
 use Rattle.wb_edit.specs.Looks.{array_kind, array_named}
 use Rattle.wb_edit.specs.Writes.{set_to}
 use Rattle.wb_edit.proofs.Elements.{index_order, number_of, elements_ascend, find_element}
@@ -100,7 +100,7 @@ shown_in (Ok (x ∷ xs)) = array_in x.value
 shown_in (Ok []) = None
 shown_in (Err why) = None
 
-sees : (s : Cells) (x : Name × Kind) (j : Result (Name × Kind) Refusal) →
+sees : (s : Cells) (x : Name × Kind) (j : Result (Name × Kind) WhyRefused) →
     outcome (judged j (λ y. write (set_to (Object y.0) (Array y.0 y.1) ∷ []))) s ≡ Ok (set_to (Object x.0) (Array x.0 x.1) ∷ []) → j ≡ Ok x
 sees s x (Ok y) e = let shown : Some y ≡ Some x = ap shown_in e in ap Ok (same_Some y x shown)
 sees s x (Err why) e = let shown : None ≡ Some x = ap shown_in e in absurd (none-some x shown)
@@ -112,11 +112,11 @@ saw_array s a rs ss x g =
     array_is (get s (Object a)) x (sees s x (array_kind (get s (Object a)))
     (ap (λ v. outcome (judged (array_kind v) next) s) (sym (seen_value s (Object a))) ∙ (g next).0))
 
-pub went_on : (j : Result (Unit {0}) Refusal) (x : Unit {0}) → stopped j ≡ Ok x → j ≡ Ok x
+pub went_on : (j : Result (Unit {0}) WhyRefused) (x : Unit {0}) → or_refused j ≡ Ok x → j ≡ Ok x
 went_on (Ok y) x e = refl
 went_on (Err why) x e = cc
 
-found_same : (b : Bool) (x : Unit {0}) (why : Refusal) → ◌≡◌ {A = Result (Unit {0}) Refusal} (elim b [ true ↦ Ok tt | false ↦ Err why ]) (Ok x) → b ≡ true
+found_same : (b : Bool) (x : Unit {0}) (why : WhyRefused) → ◌≡◌ {A = Result (Unit {0}) WhyRefused} (elim b [ true ↦ Ok tt | false ↦ Err why ]) (Ok x) → b ≡ true
 found_same true x why e = refl
 found_same false x why e = cc
 
@@ -253,15 +253,15 @@ kept_ascend how xs ys zs s e = subst (λ es. T (is_sorted index_cmp es))
 
 -- ---- the loop
 
-pub went_with : (b : Bool) (w z : ℤ) → stopped (kept_if b w) ≡ Ok z → (b ≡ true) × (w ≡ z)
+pub went_with : (b : Bool) (w z : ℤ) → or_refused (kept_if b w) ≡ Ok z → (b ≡ true) × (w ≡ z)
 went_with true w z e = let same : w ≡ z = cc in (refl, same)
 went_with false w z e = cc
 
-pub halted_with : (b : Bool) (w : ℤ) (why : AttemptErr) → stopped (kept_if b w) ≡ Err why → (b ≡ false) × (Refused Overflow ≡ why)
+pub halted_with : (b : Bool) (w : ℤ) (why : AttemptErr) → or_refused (kept_if b w) ≡ Err why → (b ≡ false) × (Refused Overflow ≡ why)
 halted_with true w why e = cc
 halted_with false w why e = let same : Refused Overflow ≡ why = cc in (refl, same)
 
-pub fits_after : (w z : ℤ) → stopped (fits_integer w) ≡ Ok z → FitsSigned w64 z
+pub fits_after : (w z : ℤ) → or_refused (fits_integer w) ≡ Ok z → FitsSigned w64 z
 fits_after w z e = let kept = went_with (is_i64 w) w z e in subst (λ v. FitsSigned w64 v) kept.1 (is_i64-fits w kept.0)
 
 pub pushed : {X A B : Type 0} (r : Result A B) (xs ys : List X) (x : X) → is_err r ≡ false → ys ≡ (if is_ok r then xs ++ x ∷ [] else xs) → ys ≡ xs ++ x ∷ []
@@ -273,7 +273,7 @@ module _ (how : Operation) (xs ys : List (Index × ℤ)) (alike : keys_of xs ≡
   also_low : p < length ys
   also_low = let same = same_length xs ys alike in omega (arith, low, same)
 
-  pub next_result : (z : ℤ) (made more : List (Index × ℤ)) → stopped (fits_integer (result_of how x.1 y.1)) ≡ Ok z → made ≡ take p (side_by_side how xs ys) →
+  pub next_result : (z : ℤ) (made more : List (Index × ℤ)) → or_refused (fits_integer (result_of how x.1 y.1)) ≡ Ok z → made ≡ take p (side_by_side how xs ys) →
       list_all (λ z. is_i64 z.1) made ≡ true → more ≡ made ++ (x.0, z) ∷ []
       → (more ≡ take (p + 1) (side_by_side how xs ys)) × (list_all (λ z. is_i64 z.1) more ≡ true)
   next_result z made more given sofar within_64 is =
@@ -287,7 +287,7 @@ module _ (how : Operation) (xs ys : List (Index × ℤ)) (alike : keys_of xs ≡
         ap (list_all (λ z. is_i64 z.1)) same ∙ within_more made (x.0, w) within_64 kept.0,
       )
 
-  pub halted : (why : AttemptErr) → T (is_sorted index_cmp xs) → stopped (fits_integer (result_of how x.1 y.1)) ≡ Err why →
+  pub halted : (why : AttemptErr) → T (is_sorted index_cmp xs) → or_refused (fits_integer (result_of how x.1 y.1)) ≡ Err why →
       Judges (all_within (results how xs ys)) (Err why)
   halted why s given =
       let w : ℤ = result_of how x.1 y.1 in

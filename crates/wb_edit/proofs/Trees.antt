@@ -10,12 +10,12 @@ use Rattle.wb_cells.specs.declared.cells.pattern.Pattern.{Pattern}
 use Rattle.wb_cells.specs.declared.cells.pattern.Pattern.TheVariants.{One}
 use Rattle.wb_cells.specs.declared.cells.value.Value.{Value}
 use Rattle.wb_cells.specs.Cells.{cell_cmp, cell_order, Cells}
-use Rattle.wb_cells.specs.declared.refusal.Refusal.{Refusal}
+use Rattle.wb_cells.specs.declared.refusal.WhyRefused.{WhyRefused}
 use Rattle.wb_edit.specs.declared.attempt_err.AttemptErr.{AttemptErr}
 use Rattle.wb_edit.specs.declared.attempt_err.AttemptErr.TheVariants.{Refused, NoMemory}
 use Rattle.wb_cells.specs.Schema.{workbook}
 use Rattle.wb_edit.specs.Trees.{Look, first_value, read, judged}
-use Rattle.wb_edit.specs.Plans.{Gives, Looks, stopped}
+use Rattle.wb_edit.specs.Plans.{Gives, Looks, or_refused}
 
 -- ---- a look at one cell
 
@@ -45,8 +45,8 @@ module _ {X : Type 0} (t : Look X) (s : Cells) (rs ss : List Pattern) where
   halts f (Refused why) h = λ next. h (λ x. f x next)
   halts f NoMemory h = tt
 
-  judged_by : {Y : Type 0} (j : X → Result Y Refusal) (x : X) → Gives t s rs x ss → (r : Result Y Refusal) → j x ≡ r →
-      Looks (λ next. t (λ x. judged (j x) next)) s rs (stopped r) ss
+  judged_by : {Y : Type 0} (j : X → Result Y WhyRefused) (x : X) → Gives t s rs x ss → (r : Result Y WhyRefused) → j x ≡ r →
+      Looks (λ next. t (λ x. judged (j x) next)) s rs (or_refused r) ss
   judged_by j x g (Ok y) e = λ next.
       let h = g (λ x. judged (j x) next) in
       (h.0 ∙ ap (λ r. outcome (judged r next) s) e, h.1 ∙ ap (λ r. ss ++ reads (judged r next) s) e)
@@ -68,7 +68,7 @@ module _ {X : Type 0} (t : Look X) (s : Cells) (rs ss : List Pattern) where
   then_looks f x (Err NoMemory) us g l = tt
 
   -- what was seen is judged
-  pub then_judged : {Y : Type 0} (j : X → Result Y Refusal) (x : X) → Gives t s rs x ss → Looks (λ next. t (λ x. judged (j x) next)) s rs (stopped (j x)) ss
+  pub then_judged : {Y : Type 0} (j : X → Result Y WhyRefused) (x : X) → Gives t s rs x ss → Looks (λ next. t (λ x. judged (j x) next)) s rs (or_refused (j x)) ss
   then_judged j x g = judged_by j x g (j x) refl
 
   -- what was seen is turned into something else

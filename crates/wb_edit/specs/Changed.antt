@@ -7,8 +7,8 @@ use Rattle.wb_cells.specs.declared.cells.value.Value.{Value}
 use Rattle.wb_cells.specs.declared.values.index.Index.{Index}
 use Rattle.wb_cells.specs.Cells.{Name, Changes}
 use Rattle.wb_edit.specs.declared.operation.Operation.{Operation}
-use Rattle.wb_cells.specs.declared.refusal.Refusal.{Refusal}
-use Rattle.wb_cells.specs.declared.refusal.Refusal.TheVariants.{Overflow}
+use Rattle.wb_cells.specs.declared.refusal.WhyRefused.{WhyRefused}
+use Rattle.wb_cells.specs.declared.refusal.WhyRefused.TheVariants.{Overflow}
 use Rattle.wb_edit.specs.declared.attempt_err.AttemptErr.{AttemptErr}
 use Rattle.wb_edit.specs.declared.attempt_err.AttemptErr.TheVariants.{Refused, NoMemory}
 use Rattle.wb_edit.specs.Commands.All.{number_cells}
@@ -21,13 +21,13 @@ items_of (Ok v) = Ok v.items
 items_of (Err why) = Err why
 
 -- a judgement comes out so, unless no memory was left
-abbrev pub Judges : {X : Type 0} → Result X Refusal → Result X AttemptErr → Type 0
+abbrev pub Judges : {X : Type 0} → Result X WhyRefused → Result X AttemptErr → Type 0
 Judges j (Ok x) = j ≡ Ok x
 Judges j (Err (Refused why)) = j ≡ Err why
 Judges j (Err NoMemory) = ⊤
 
 -- the numbers that a judgement gives, as changes of the elements of an array
-abbrev pub numbered : Name → Result (List (Index × ℤ)) Refusal → Result Changes Refusal
+abbrev pub numbered : Name → Result (List (Index × ℤ)) WhyRefused → Result Changes WhyRefused
 numbered a (Ok zs) = Ok (number_cells a zs)
 numbered a (Err why) = Err why
 
@@ -37,12 +37,12 @@ made_of how [] ys = []
 made_of how (x ∷ xs) [] = []
 made_of how (x ∷ xs) (y ∷ ys) = result_of how x y ∷ made_of how xs ys
 
-abbrev pub numbers_if : Bool → List ℤ → Result (List ℤ) Refusal
+abbrev pub numbers_if : Bool → List ℤ → Result (List ℤ) WhyRefused
 numbers_if true zs = Ok zs
 numbers_if false zs = Err Overflow
 
 -- numbers, where all are of 64 bits
-abbrev pub numbers_within : List ℤ → Result (List ℤ) Refusal
+abbrev pub numbers_within : List ℤ → Result (List ℤ) WhyRefused
 numbers_within zs = numbers_if (list_all is_i64 zs) zs
 
 -- each of the cells becomes a value, or absent

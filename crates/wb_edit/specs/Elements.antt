@@ -9,8 +9,8 @@ use Rattle.wb_cells.specs.Cells.{Name, is_same_name, is_same_index}
 use Rattle.wb_cells.specs.Readers.{element_in}
 use Rattle.wb_edit.specs.declared.operation.Operation.{Operation}
 use Rattle.wb_edit.specs.declared.operation.Operation.TheVariants.{Assign, Sum, Difference, Product}
-use Rattle.wb_cells.specs.declared.refusal.Refusal.{Refusal}
-use Rattle.wb_cells.specs.declared.refusal.Refusal.TheVariants.{WrongKind, Overflow}
+use Rattle.wb_cells.specs.declared.refusal.WhyRefused.{WhyRefused}
+use Rattle.wb_cells.specs.declared.refusal.WhyRefused.TheVariants.{WrongKind, Overflow}
 use Rattle.wb_edit.specs.Trees.{Look, judged}
 use Rattle.wb_edit.specs.Numbers.{is_i64}
 
@@ -25,7 +25,7 @@ element_indices a next = elements a (λ es. next (keys_of es))
 -- ---- two arrays
 
 -- they are over one domain, by its name; else one is of the wrong kind
-abbrev pub same_domain : Name → Name → Result (Unit {0}) Refusal
+abbrev pub same_domain : Name → Name → Result (Unit {0}) WhyRefused
 same_domain d e = elim (is_same_name d e) [ true ↦ Ok tt | false ↦ Err WrongKind ]
 
 abbrev pub result_of : Operation → ℤ → ℤ → ℤ
@@ -43,12 +43,12 @@ value_at (e ∷ es) i = elim (is_same_index i e.0) [ true ↦ e.1 | false ↦ va
 abbrev pub results : Operation → (xs ys : List (Index × ℤ)) → List (Index × ℤ)
 results how xs ys = map (λ x. (x.0, result_of how x.1 (value_at ys x.0))) xs
 
-abbrev pub all_kept_if : Bool → List (Index × ℤ) → Result (List (Index × ℤ)) Refusal
+abbrev pub all_kept_if : Bool → List (Index × ℤ) → Result (List (Index × ℤ)) WhyRefused
 all_kept_if true zs = Ok zs
 all_kept_if false zs = Err Overflow
 
 -- elements, where all are of 64 bits
-abbrev pub all_within : List (Index × ℤ) → Result (List (Index × ℤ)) Refusal
+abbrev pub all_within : List (Index × ℤ) → Result (List (Index × ℤ)) WhyRefused
 all_within zs = all_kept_if (list_all (λ z. is_i64 z.1) zs) zs
 
 -- two arrays over one domain: looks at nothing

@@ -9,8 +9,8 @@ use Rattle.wb_cells.specs.declared.cells.value.Value.{Value}
 use Rattle.wb_cells.specs.declared.cells.value.Value.TheVariants.{Domain}
 use Rattle.wb_cells.specs.declared.values.index.Index.{Index}
 use Rattle.wb_cells.specs.Cells.{Name}
-use Rattle.wb_cells.specs.declared.refusal.Refusal.{Refusal}
-use Rattle.wb_cells.specs.declared.refusal.Refusal.TheVariants.{OutOfDomain}
+use Rattle.wb_cells.specs.declared.refusal.WhyRefused.{WhyRefused}
+use Rattle.wb_cells.specs.declared.refusal.WhyRefused.TheVariants.{OutOfDomain}
 use Rattle.wb_edit.specs.Trees.{Look, ◌>>=◌, read, judged}
 use Rattle.wb_edit.specs.Numbers.{element_or_refusal}
 use Rattle.wb_edit.specs.Looks.{is_there}
@@ -18,13 +18,13 @@ use Rattle.wb_edit.specs.Looks.{is_there}
 -- ---- judgements
 
 -- an array over another domain than a sparse one has no implicit value: an index that isn't there is outside
-abbrev pub has_implicit : Kind → Result (Unit {0}) Refusal
+abbrev pub has_implicit : Kind → Result (Unit {0}) WhyRefused
 has_implicit (Rectangular rank) = Err OutOfDomain
 has_implicit (Sparse rank) = Ok tt
 has_implicit (Associative type) = Err OutOfDomain
 
 -- the parent of the sparse domain whose object is given
-abbrev pub parent_in : Option Value → Result Name Refusal
+abbrev pub parent_in : Option Value → Result Name WhyRefused
 parent_in (Some (Domain (Sparse parent rank))) = Ok parent
 parent_in _ = Err OutOfDomain
 

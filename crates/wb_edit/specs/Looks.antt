@@ -16,36 +16,36 @@ use Rattle.wb_cells.specs.Kinds.{is_key}
 pub use Rattle.wb_cells.specs.Readers.{member_in}
 use Rattle.wb_cells.specs.Shapes.{Range, indices}
 pub use Rattle.wb_cells.specs.WellFormed.{ranges_in}
-use Rattle.wb_cells.specs.declared.refusal.Refusal.{Refusal}
-use Rattle.wb_cells.specs.declared.refusal.Refusal.TheVariants.{NameTaken, NoSuchName, WrongKind, OutOfDomain}
+use Rattle.wb_cells.specs.declared.refusal.WhyRefused.{WhyRefused}
+use Rattle.wb_cells.specs.declared.refusal.WhyRefused.TheVariants.{NameTaken, NoSuchName, WrongKind, OutOfDomain}
 use Rattle.wb_edit.specs.Trees.{Look, ◌>>=◌, read, judged}
 
 -- ---- judgements of what a cell holds
 
 -- nothing has the name; else it is taken
-abbrev pub is_free : Option Value → Result (Unit {0}) Refusal
+abbrev pub is_free : Option Value → Result (Unit {0}) WhyRefused
 is_free None = Ok tt
 is_free (Some v) = Err NameTaken
 
 -- the name is that of a domain: what it is. It is no name where nothing has it, and of the wrong kind where an array has it
-abbrev pub domain_kind : Option Value → Result DomainKind Refusal
+abbrev pub domain_kind : Option Value → Result DomainKind WhyRefused
 domain_kind None = Err NoSuchName
 domain_kind (Some (Domain kind)) = Ok kind
 domain_kind (Some v) = Err WrongKind
 
 -- the name is that of an array: its domain, and that domain's kind
-abbrev pub array_kind : Option Value → Result (Name × Kind) Refusal
+abbrev pub array_kind : Option Value → Result (Name × Kind) WhyRefused
 array_kind None = Err NoSuchName
 array_kind (Some (Array d kind)) = Ok (d, kind)
 array_kind (Some v) = Err WrongKind
 
 -- an element is there; else the index is outside
-abbrev pub is_there : Option Value → Result (Unit {0}) Refusal
+abbrev pub is_there : Option Value → Result (Unit {0}) WhyRefused
 is_there None = Err OutOfDomain
 is_there (Some v) = Ok tt
 
 -- the index is of the rank and type of the indices of a domain of this kind; else it is of the wrong kind
-abbrev pub fits : Kind → Index → Result (Unit {0}) Refusal
+abbrev pub fits : Kind → Index → Result (Unit {0}) WhyRefused
 fits kind i = elim (is_key kind i) [ true ↦ Ok tt | false ↦ Err WrongKind ]
 
 -- the indices of ranges, where there are any

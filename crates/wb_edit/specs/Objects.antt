@@ -4,12 +4,12 @@ use Rattle.selective_undo.specs.Edit.{look}
 use Rattle.wb_cells.specs.declared.cells.cell.Cell.{Cell}
 use Rattle.wb_cells.specs.declared.cells.pattern.Pattern.TheVariants.{Objects}
 use Rattle.wb_cells.specs.declared.cells.value.Value.{Value}
-use Rattle.wb_cells.specs.declared.refusal.Refusal.{Refusal}
-use Rattle.wb_cells.specs.declared.refusal.Refusal.TheVariants.{NotEmpty}
+use Rattle.wb_cells.specs.declared.refusal.WhyRefused.{WhyRefused}
+use Rattle.wb_cells.specs.declared.refusal.WhyRefused.TheVariants.{NotEmpty}
 use Rattle.wb_edit.specs.Trees.{Look, judged}
 
 -- nothing was seen; else the workbook is not empty
-abbrev pub is_empty : List (Cell × Value) → Result (Unit {0}) Refusal
+abbrev pub is_empty : List (Cell × Value) → Result (Unit {0}) WhyRefused
 is_empty [] = Ok tt
 is_empty (x ∷ xs) = Err NotEmpty
 

@@ -2,22 +2,17 @@
 use Rattle.std.specs.declared.vec.Vec.{Vec}
 use Rattle.std.specs.Prelude.{◌≡◌, ℕ, List, ◌++◌, Result, Ok, Err, ⊤}
 use Rattle.selective_undo.specs.Edit.{outcome, reads}
-use Rattle.wb_cells.specs.declared.cells.cell.Cell.{Cell}
-use Rattle.wb_cells.specs.declared.cells.cell.Cell.TheVariants.{In, Element}
 use Rattle.wb_cells.specs.declared.cells.pattern.Pattern.{Pattern}
 use Rattle.wb_cells.specs.Cells.{Cells, Changes, count_of}
-use Rattle.wb_edit.specs.declared.indexed_cells.IndexedCells.{IndexedCells}
-use Rattle.wb_edit.specs.declared.indexed_cells.IndexedCells.TheVariants.{Inside, Elements, Membership}
 use Rattle.wb_edit.specs.declared.planning.PlanErr.{PlanErr}
 use Rattle.wb_edit.specs.declared.planning.PlanErr.TheVariants.{Refused as PlanRefused, NoMemory as PlanNoMemory}
 use Rattle.wb_edit.specs.declared.looks.indices.Indices.{Indices}
 use Rattle.wb_edit.specs.declared.looks.indices.Indices.TheVariants.{Product, Listed}
 use Rattle.wb_edit.specs.declared.attempt_err.AttemptErr.{AttemptErr}
 use Rattle.wb_edit.specs.declared.attempt_err.AttemptErr.TheVariants.{Refused as AttemptRefused, NoMemory as AttemptNoMemory}
-use Rattle.wb_cells.specs.declared.refusal.Refusal.{Refusal}
+use Rattle.wb_cells.specs.declared.refusal.WhyRefused.{WhyRefused}
 use Rattle.wb_cells.specs.declared.values.index.Index.{Index}
 use Rattle.wb_cells.specs.Shapes.{indices}
-use Rattle.wb_cells.specs.WellFormed.{index_cell}
 use Rattle.wb_edit.specs.Trees.{Tree, Look, plain}
 
 -- A plan is what the tree says of the cells: the changes, or the refusal; the reads in their order; and how many cells change,
@@ -40,7 +35,7 @@ abbrev pub Gives : {X : Type 0} → Look X → Cells → List Pattern → X → 
 Gives t s rs x ss = (next : _ → Tree) → (outcome (t next) s ≡ outcome (next x) s) × (rs ++ reads (t next) s ≡ ss ++ reads (next x) s)
 
 -- whatever comes next, a look refuses the edit
-abbrev pub Refuses : {X : Type 0} → Look X → Cells → List Pattern → Refusal → List Pattern → Type 0
+abbrev pub Refuses : {X : Type 0} → Look X → Cells → List Pattern → WhyRefused → List Pattern → Type 0
 Refuses t s rs why ss = (next : _ → Tree) → (outcome (t next) s ≡ Err (plain why)) × (ss ≡ rs ++ reads (t next) s)
 
 -- a look comes out as its tree does
@@ -55,9 +50,9 @@ Makes xs (Ok ys) = ys ≡ xs
 Makes xs (Err why) = why ≡ AttemptNoMemory
 
 -- a judgement, where it may stop an attempt
-abbrev pub stopped : {X : Type 0} → Result X Refusal → Result X AttemptErr
-stopped (Ok x) = Ok x
-stopped (Err why) = Err (AttemptRefused why)
+abbrev pub or_refused : {X : Type 0} → Result X WhyRefused → Result X AttemptErr
+or_refused (Ok x) = Ok x
+or_refused (Err why) = Err (AttemptRefused why)
 
 -- the indices that were found, by ranges or one by one
 abbrev pub indices_in : Indices → List Index
@@ -73,9 +68,3 @@ found_members (Err why) = Err why
 abbrev pub shown_indices : Result Indices AttemptErr → Result (List Index) AttemptErr
 shown_indices (Ok found) = Ok (indices_in found)
 shown_indices (Err why) = Err why
-
--- the cell of an index
-abbrev pub cell_at : IndexedCells → Index → Cell
-cell_at (Inside d) i = In d i
-cell_at (Elements a) i = Element a i
-cell_at (Membership kind d) i = index_cell kind d i

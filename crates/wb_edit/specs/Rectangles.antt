@@ -14,19 +14,19 @@ use Rattle.wb_edit.specs.declared.asked_numbers.AskedNumbers.{AskedNumbers}
 use Rattle.wb_edit.specs.declared.asked_numbers.AskedNumbers.TheVariants.{Rectangle as numbered, Indices as set_numbered}
 use Rattle.wb_edit.specs.declared.asked_rectangle.AskedRectangle.{AskedRectangle}
 use Rattle.wb_edit.specs.declared.asked_rectangle.AskedRectangle.TheVariants.{Ranges, Indices}
-use Rattle.wb_cells.specs.declared.refusal.Refusal.{Refusal}
-use Rattle.wb_cells.specs.declared.refusal.Refusal.TheVariants.{WrongKind, OutOfDomain}
+use Rattle.wb_cells.specs.declared.refusal.WhyRefused.{WhyRefused}
+use Rattle.wb_cells.specs.declared.refusal.WhyRefused.TheVariants.{WrongKind, OutOfDomain}
 use Rattle.wb_edit.specs.Trees.{Look, ◌>>=◌, read, judged}
 
 -- ---- judgements
 
 -- the ranges of the rectangle that is asked for; a set in its place is of the wrong kind
-abbrev pub ranges_of : AskedRectangle → Result (List Range) Refusal
+abbrev pub ranges_of : AskedRectangle → Result (List Range) WhyRefused
 ranges_of (Ranges rs) = Ok rs
 ranges_of Indices = Err WrongKind
 
 -- the ranges and the numbers that are asked for; a set in the place of the rectangle is of the wrong kind
-abbrev pub numbers_of : AskedNumbers → Result (List Range × List ℤ) Refusal
+abbrev pub numbers_of : AskedNumbers → Result (List Range × List ℤ) WhyRefused
 numbers_of (numbered r) = Ok r
 numbers_of set_numbered = Err WrongKind
 
@@ -36,15 +36,15 @@ is_rectangular_of rank (Sparse r) = false
 is_rectangular_of rank (Associative type) = false
 
 -- the array is over a rectangular domain of the rank; else it is of the wrong kind
-abbrev pub of_rank : ℕ → Kind → Result (Unit {0}) Refusal
+abbrev pub of_rank : ℕ → Kind → Result (Unit {0}) WhyRefused
 of_rank rank kind = elim (is_rectangular_of rank kind) [ true ↦ Ok tt | false ↦ Err WrongKind ]
 
 -- all of them are there; else an index is outside
-abbrev pub there_if : Bool → Result (Unit {0}) Refusal
+abbrev pub there_if : Bool → Result (Unit {0}) WhyRefused
 there_if true = Ok tt
 there_if false = Err OutOfDomain
 
-abbrev pub all_there : List (Option Value) → Result (Unit {0}) Refusal
+abbrev pub all_there : List (Option Value) → Result (Unit {0}) WhyRefused
 all_there vs = there_if (list_all is_some vs)
 
 -- ---- the looks

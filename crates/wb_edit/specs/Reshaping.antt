@@ -12,8 +12,8 @@ use Rattle.wb_cells.specs.declared.values.index.Index.{Index}
 use Rattle.wb_cells.specs.Cells.{Name, Changes}
 use Rattle.wb_cells.specs.Shapes.{Range, indices}
 use Rattle.wb_reshape.specs.Resized.{without, resized_cells}
-use Rattle.wb_cells.specs.declared.refusal.Refusal.{Refusal}
-use Rattle.wb_cells.specs.declared.refusal.Refusal.TheVariants.{WrongKind, InUse}
+use Rattle.wb_cells.specs.declared.refusal.WhyRefused.{WhyRefused}
+use Rattle.wb_cells.specs.declared.refusal.WhyRefused.TheVariants.{WrongKind, InUse}
 use Rattle.wb_edit.specs.Trees.{Tree, Look, ◌>>=◌, read, judged}
 use Rattle.wb_edit.specs.Rectangles.{read_all}
 use Rattle.wb_edit.specs.Resizing.{zeros}
@@ -23,16 +23,16 @@ use Rattle.wb_edit.specs.Writes.{set_to}
 -- ---- judgements of what cells hold
 
 -- the ranges of a rectangular domain; where there are none, the domain is of the wrong kind
-abbrev pub shape_in : Option Value → Result (List Range) Refusal
+abbrev pub shape_in : Option Value → Result (List Range) WhyRefused
 shape_in (Some (Ranges rs)) = Ok rs
 shape_in _ = Err WrongKind
 
 -- none is there; else the domain is in use
-abbrev pub absent_if : Bool → Result (Unit {0}) Refusal
+abbrev pub absent_if : Bool → Result (Unit {0}) WhyRefused
 absent_if true = Err InUse
 absent_if false = Ok tt
 
-abbrev pub none_present : List (Option Value) → Result (Unit {0}) Refusal
+abbrev pub none_present : List (Option Value) → Result (Unit {0}) WhyRefused
 none_present vs = absent_if (list_any is_some vs)
 
 -- ---- the looks

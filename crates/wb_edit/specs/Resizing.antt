@@ -12,8 +12,8 @@ use Rattle.wb_cells.specs.Cells.{Name}
 use Rattle.wb_cells.specs.Kinds.{kind_of}
 use Rattle.wb_reshape.specs.Resized.{resized_cells}
 pub use Rattle.wb_reshape.specs.Fills.{number_or_zero, zeros}
-use Rattle.wb_cells.specs.declared.refusal.Refusal.{Refusal}
-use Rattle.wb_cells.specs.declared.refusal.Refusal.TheVariants.{WrongKind, OutOfParent}
+use Rattle.wb_cells.specs.declared.refusal.WhyRefused.{WhyRefused}
+use Rattle.wb_cells.specs.declared.refusal.WhyRefused.TheVariants.{WrongKind, OutOfParent}
 use Rattle.wb_edit.specs.Trees.{Tree, Look, ◌>>=◌, judged}
 use Rattle.wb_edit.specs.Rectangles.{read_all}
 use Rattle.wb_edit.specs.Users.{bound, uses}
@@ -21,17 +21,17 @@ use Rattle.wb_edit.specs.Users.{bound, uses}
 -- ---- judgements
 
 -- a sparse or associative domain, which has members; a rectangular one is of the wrong kind
-abbrev pub has_members : DomainKind → Result (Unit {0}) Refusal
+abbrev pub has_members : DomainKind → Result (Unit {0}) WhyRefused
 has_members (Rectangular rank) = Err WrongKind
 has_members (Sparse parent rank) = Ok tt
 has_members (Associative type) = Ok tt
 
 -- all indices are in the parent; else one is outside
-abbrev pub inside_if : Bool → Result (Unit {0}) Refusal
+abbrev pub inside_if : Bool → Result (Unit {0}) WhyRefused
 inside_if true = Ok tt
 inside_if false = Err OutOfParent
 
-abbrev pub all_inside : List (Option Value) → Result (Unit {0}) Refusal
+abbrev pub all_inside : List (Option Value) → Result (Unit {0}) WhyRefused
 all_inside vs = inside_if (list_all is_some vs)
 
 -- ---- the looks

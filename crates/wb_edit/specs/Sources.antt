@@ -16,8 +16,8 @@ use Rattle.wb_reshape.specs.declared.operand.Operand.{Operand}
 use Rattle.wb_reshape.specs.declared.operand.Operand.TheVariants.{Rectangle, Items, Named}
 use Rattle.wb_reshape.specs.declared.new_indices.Displacement.{Displacement}
 use Rattle.wb_reshape.specs.Sources.{displaced, can_displace}
-use Rattle.wb_cells.specs.declared.refusal.Refusal.{Refusal}
-use Rattle.wb_cells.specs.declared.refusal.Refusal.TheVariants.{WrongKind, TooLarge}
+use Rattle.wb_cells.specs.declared.refusal.WhyRefused.{WhyRefused}
+use Rattle.wb_cells.specs.declared.refusal.WhyRefused.TheVariants.{WrongKind, TooLarge}
 use Rattle.wb_edit.specs.Trees.{Look, ◌>>=◌, judged, plain}
 use Rattle.wb_edit.specs.Rectangles.{of_rank}
 use Rattle.wb_edit.specs.Reshaping.{shape}
@@ -26,23 +26,23 @@ use Rattle.wb_edit.specs.Looks.{domain_named, members}
 -- ---- judgements
 
 -- so many dimensions as a domain of the rank has; else of the wrong kind
-abbrev pub same_rank : (rank dimensions : ℕ) → Result (Unit {0}) Refusal
+abbrev pub same_rank : (rank dimensions : ℕ) → Result (Unit {0}) WhyRefused
 same_rank rank dimensions = elim (dimensions == rank) [ true ↦ Ok tt | false ↦ Err WrongKind ]
 
 -- what two rectangles of one rank have in common; else the other one is of the wrong kind, which in a well-formed workbook
 -- was tested before both were looked at
-abbrev pub slice_of : (old by : List Range) → Result (List Range) Refusal
+abbrev pub slice_of : (old by : List Range) → Result (List Range) WhyRefused
 slice_of old by = elim (length old == length by) [ true ↦ Ok (sliced old by) | false ↦ Err WrongKind ]
 
 -- displaced ranges, where each had stride 1, else the domain is of the wrong kind, and the limits hold, else they are too large
-abbrev pub displaced_if : (unit_strides within : Bool) → List Range → Result (List Range) Refusal
+abbrev pub displaced_if : (unit_strides within : Bool) → List Range → Result (List Range) WhyRefused
 displaced_if false within new = Err WrongKind
 displaced_if true false new = Err TooLarge
 displaced_if true true new = Ok new
 
 -- ranges displaced by an offset for each; offsets of another number are of the wrong kind, which in a well-formed workbook was
 -- tested before the ranges were looked at
-abbrev pub displacement_of : Displacement → (offsets : List ℤ) → (old : List Range) → Result (List Range) Refusal
+abbrev pub displacement_of : Displacement → (offsets : List ℤ) → (old : List Range) → Result (List Range) WhyRefused
 displacement_of how offsets old = elim (length offsets == length old) [
   | true ↦ displaced_if (has_unit_strides old) (can_displace how offsets old) (displaced how offsets old)
   | false ↦ Err WrongKind
@@ -61,11 +61,11 @@ is_alike (over_associative type) (over_associative other) = is_same_type type ot
 is_alike _ _ = false
 
 -- domains alike; else the other one is of the wrong kind
-abbrev pub alike : Kind → Kind → Result (Unit {0}) Refusal
+abbrev pub alike : Kind → Kind → Result (Unit {0}) WhyRefused
 alike kind other = elim (is_alike kind other) [ true ↦ Ok tt | false ↦ Err WrongKind ]
 
 -- all indices are of the rank or type of the indices of a domain of this kind; else one is of the wrong kind
-abbrev pub all_fit : Kind → List Index → Result (Unit {0}) Refusal
+abbrev pub all_fit : Kind → List Index → Result (Unit {0}) WhyRefused
 all_fit kind is = elim (list_all (is_key kind) is) [ true ↦ Ok tt | false ↦ Err WrongKind ]
 
 -- ---- the looks

@@ -5,7 +5,7 @@ use Rattle.wb_cells.specs.declared.cells.cell.Cell.{Cell}
 use Rattle.wb_cells.specs.declared.cells.pattern.Pattern.TheVariants.{One}
 use Rattle.wb_cells.specs.declared.cells.value.Value.{Value}
 use Rattle.wb_cells.specs.declared.refusal.EditRefusal.{EditRefusal}
-use Rattle.wb_cells.specs.declared.refusal.Refusal.{Refusal}
+use Rattle.wb_cells.specs.declared.refusal.WhyRefused.{WhyRefused}
 use Rattle.wb_cells.specs.Schema.{workbook}
 
 -- An edit of a workbook is a tree: `refuse why`, `write changes`, or a look and what follows for each thing that it may show.
@@ -37,10 +37,10 @@ abbrev pub read : Cell → Look (Option Value)
 read c next = look (One c) (λ seen. next (first_value seen))
 
 -- why a command is refused, as the refusal of an edit that is this command alone: there is no place to tell
-abbrev pub plain : Refusal → EditRefusal
+abbrev pub plain : WhyRefused → EditRefusal
 plain why = record { why = why; at = None }
 
 -- go on with what a judgement gives, or be refused by it
-abbrev pub judged : {X : Type 0} → Result X Refusal → Look X
+abbrev pub judged : {X : Type 0} → Result X WhyRefused → Look X
 judged (Ok x) next = next x
 judged (Err why) next = refuse (plain why)

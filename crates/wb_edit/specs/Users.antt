@@ -6,14 +6,14 @@ use Rattle.wb_cells.specs.declared.cells.pattern.Pattern.TheVariants.{Uses}
 use Rattle.wb_cells.specs.declared.cells.value.Binding.{Binding}
 use Rattle.wb_cells.specs.Cells.{Name}
 pub use Rattle.wb_reshape.specs.Users.{binding_in, user_in, named, bound}
-use Rattle.wb_cells.specs.declared.refusal.Refusal.{Refusal}
-use Rattle.wb_cells.specs.declared.refusal.Refusal.TheVariants.{InUse}
+use Rattle.wb_cells.specs.declared.refusal.WhyRefused.{WhyRefused}
+use Rattle.wb_cells.specs.declared.refusal.WhyRefused.TheVariants.{InUse}
 use Rattle.wb_edit.specs.Trees.{Look, ◌>>=◌, judged}
 
 -- ---- judgements of what was seen
 
 -- nothing is bound to the domain; else it is in use
-abbrev pub is_unused : List (Name × Binding) → Result (Unit {0}) Refusal
+abbrev pub is_unused : List (Name × Binding) → Result (Unit {0}) WhyRefused
 is_unused [] = Ok tt
 is_unused (u ∷ us) = Err InUse
 

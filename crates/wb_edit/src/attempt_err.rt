@@ -1,20 +1,20 @@
 ghost use Rattle.std.specs.Prelude.{◌≡◌};
-ghost use Rattle.wb_edit.specs.Plans.{stopped};
+ghost use Rattle.wb_edit.specs.Plans.{or_refused};
 
-use wb_cells::Refusal;
+use wb_cells::WhyRefused;
 
 /// Why an attempt stopped.
 #[derive(Clone, Copy, Debug)]
 pub(crate) enum AttemptErr {
     /// The edit is refused.
-    Refused(Refusal),
+    Refused(WhyRefused),
     /// A growth was refused.
     NoMemory,
 }
 
 /// A judgement, where it may stop an attempt.
-pub(crate) fn stopped<X: Copy>(judgement: Result<X, Refusal>) -> Result<X, AttemptErr>
-    ensures { result ≡ stopped judgement }
+pub(crate) fn or_refused<X: Copy>(judgement: Result<X, WhyRefused>) -> Result<X, AttemptErr>
+    ensures { result ≡ or_refused judgement }
 {
     match judgement {
         Ok(x) => Ok(x),

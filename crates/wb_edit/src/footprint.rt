@@ -7,23 +7,23 @@ ghost use Rattle.wb_cells.specs.Reads.{all_read};
 use std::alloc::Global;
 use std::marker::Model;
 use wb_cells::reads::{ReadRun, put, put_rectangle};
-use wb_cells::{AnyRect, Pattern, Row};
+use wb_cells::{AnyRect, IndexedRow, Pattern};
 use wb_range::NoMemory;
 
 /// So many are kept as they are; those behind them go into runs.
 const MOST: usize = 8;
 
 /// The footprint of an edit: what it read, in order. Contracts see the list of its patterns.
-pub struct Footprint {
+pub struct ReadFootprint {
     alloc: Global,
     first: Vec<Pattern>,
     rest: Vec<ReadRun>,
 }
 
 // In a function of its own, so that a crate above need not prove anew how each field is let go.
-impl Drop for Footprint {
+impl Drop for ReadFootprint {
     fn drop(self) {
-        let Footprint {
+        let ReadFootprint {
             alloc: _,
             first: _,
             rest: _,
@@ -31,7 +31,7 @@ impl Drop for Footprint {
     }
 }
 
-impl Model for Footprint {
+impl Model for ReadFootprint {
     ghost use Rattle.std.specs.Prelude.{List, ◌++◌};
     ghost use Rattle.wb_cells.specs.declared.cells.pattern.Pattern.{Pattern};
     ghost use Rattle.wb_cells.specs.Reads.{all_read};
@@ -41,12 +41,12 @@ impl Model for Footprint {
     ghost view = { λ a. a.first.items ++ all_read a.rest.items };
 }
 
-impl Footprint {
+impl ReadFootprint {
     /// Nothing read yet.
-    pub(crate) fn new(alloc: Global) -> Footprint
+    pub(crate) fn new(alloc: Global) -> ReadFootprint
         ensures { result ≡ [] }
     {
-        Footprint {
+        ReadFootprint {
             alloc,
             first: Vec::new(alloc),
             rest: Vec::new(alloc),
@@ -73,7 +73,11 @@ impl Footprint {
 
     /// Keeps that the cells of a row at every index of a rectangle were read, after the other patterns; `NoMemory` where none
     /// is left, and then nothing is kept. However many there are, they take the room of their ranges.
-    pub(crate) fn keep_rectangle(&mut self, row: &Row, ranges: &AnyRect) -> Result<(), NoMemory>
+    pub(crate) fn keep_rectangle(
+        &mut self,
+        row: &IndexedRow,
+        ranges: &AnyRect,
+    ) -> Result<(), NoMemory>
         ensures ok { OnOk result (self.new ≡ self.old ++ map one_of (map (cell_of row.now) (indices ranges.now))) }
         ensures err { OnErr result (self.new ≡ self.old) }
     {

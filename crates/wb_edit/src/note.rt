@@ -1,12 +1,11 @@
-ghost use Rattle.std.specs.Prelude.{◌≡◌, true, IfOk, IfSome, is_some, string_bytes};
+ghost use Rattle.std.specs.Prelude.{◌≡◌, true, IfOk, IfSome, is_some, option_map, string_bytes};
 ghost use Rattle.std.specs.Bool.{Decides};
-ghost use Rattle.std.specs.List.{list_all};
-ghost use Rattle.wb_sets.specs.Labels.{is_plain};
 ghost use Rattle.wb_edit.specs.Transactions.{is_note};
 
 use std::alloc::Global;
 use std::marker::Model;
 use wb_range::NoMemory;
+use wb_sets::are_plain;
 
 /// A note has at most so many bytes.
 const MAX_BYTES: usize = 256;
@@ -60,11 +59,35 @@ impl Note {
         }
     }
 
+    /// An equal note, if there is one, or `NoMemory`.
+    pub fn copied(alloc: Global, note: Option<&Note>) -> Result<Option<Note>, NoMemory>
+        ensures { IfOk result (λ n. n ≡ option_map (λ m. m.now) note.entry) }
+    {
+        match note {
+            None => Ok(None),
+            Some(note) => match note.copy(alloc) {
+                Ok(copy) => Ok(Some(copy)),
+                Err(why) => Err(why),
+            },
+        }
+    }
+
     /// Whether the notes are equal.
     pub fn is_same(&self, other: &Note) -> bool
         ensures { Decides result (self.now ≡ other.now) }
     {
         self.as_str() == other.as_str()
+    }
+
+    /// Whether both are equal notes, or neither is there.
+    pub fn are_same(note: &Option<Note>, other: &Option<Note>) -> bool
+        ensures { Decides result (note.now ≡ other.now) }
+    {
+        match (note, other) {
+            (Some(note), Some(by)) => note.is_same(by),
+            (None, None) => true,
+            _ => false,
+        }
     }
 }
 
@@ -76,18 +99,4 @@ fn is_note_text(source: &[u8]) -> bool
         return false;
     }
     are_plain(source)
-}
-
-// Whether a note may have each of these bytes.
-fn are_plain(source: &[u8]) -> bool
-    ensures { result ≡ list_all is_plain source.now }
-{
-    source.iter().all(|c| is_plain(*c))
-}
-
-// Whether a note may have this byte: those from 0x80 on are parts of longer characters.
-fn is_plain(c: u8) -> bool
-    ensures { result ≡ is_plain c }
-{
-    b' ' <= c && (c != b'"' && (c != b'\\' && c != 0x7f))
 }

@@ -12,12 +12,12 @@ use crate::commands::{
     remap, remove, reshape, set, sparse,
 };
 use crate::edit::Edit;
-use crate::footprint::Footprint;
+use crate::footprint::ReadFootprint;
 use crate::several::{PlanAllErr, plan_all};
 use crate::transaction::Transaction;
 use std::alloc::Global;
 use wb_book::Book;
-use wb_cells::{Delta, EditRefusal, Refusal};
+use wb_cells::{Delta, EditRefusal, WhyRefused};
 use wb_layers::Layered;
 use wb_text::BookText;
 
@@ -25,7 +25,7 @@ use wb_text::BookText;
 #[derive(Drop)]
 pub enum PlanErr {
     /// Why the edit is refused, and what it read up to and with the test that refused it.
-    Refused(EditRefusal, Footprint),
+    Refused(EditRefusal, ReadFootprint),
     /// No memory was left; it may be planned again.
     NoMemory,
 }
@@ -35,7 +35,11 @@ pub enum PlanErr {
 /// The workbook stays as it is. The count leaves out the cells `In`, which follow from the shapes. The edit is
 /// refused exactly where its meaning is, and then it has read what its tests looked at, up to and with the one that
 /// refused it.
-pub fn plan(alloc: Global, book: &Book, edit: &Edit) -> Result<(Delta, Footprint, usize), PlanErr>
+pub fn plan(
+    alloc: Global,
+    book: &Book,
+    edit: &Edit,
+) -> Result<(Delta, ReadFootprint, usize), PlanErr>
     ensures { IsPlan (meaning edit.now) book.now.cells result }
 {
     match edit {
@@ -50,10 +54,10 @@ fn plan_command(
     alloc: Global,
     book: &Book,
     command: &Command,
-) -> Result<(Delta, Footprint, usize), PlanErr>
+) -> Result<(Delta, ReadFootprint, usize), PlanErr>
     ensures { IsPlan (command_meaning command.now) book.now.cells result }
 {
-    let mut footprint = Footprint::new(alloc);
+    let mut footprint = ReadFootprint::new(alloc);
     let layered = Layered::of(alloc, book);
     match attempt(alloc, &layered, &mut footprint, command) {
         Ok(delta) => {
@@ -72,10 +76,10 @@ fn plan_text(
     alloc: Global,
     book: &Book,
     text: &BookText,
-) -> Result<(Delta, Footprint, usize), PlanErr>
+) -> Result<(Delta, ReadFootprint, usize), PlanErr>
     ensures { IsPlan (load_meaning text.now) book.now.cells result }
 {
-    let mut footprint = Footprint::new(alloc);
+    let mut footprint = ReadFootprint::new(alloc);
     let layered = Layered::of(alloc, book);
     match load::plan_load(alloc, &layered, &mut footprint, text) {
         Ok(delta) => {
@@ -94,7 +98,7 @@ fn plan_transaction(
     alloc: Global,
     book: &Book,
     several: &Transaction,
-) -> Result<(Delta, Footprint, usize), PlanErr>
+) -> Result<(Delta, ReadFootprint, usize), PlanErr>
     ensures { IsPlan (meaning_of_several several.now.0) book.now.cells result }
 {
     match plan_all(alloc, book, several.commands()) {
@@ -107,7 +111,7 @@ fn plan_transaction(
 }
 
 // Why an edit of several commands is refused, whose first refused command has this place.
-fn placed(place: usize, why: Refusal) -> EditRefusal
+fn placed(place: usize, why: WhyRefused) -> EditRefusal
     requires { place ≤ 4096 }
     ensures { result ≡ placed place (plain why) }
 {
@@ -121,7 +125,7 @@ fn placed(place: usize, why: Refusal) -> EditRefusal
 pub(crate) fn attempt(
     alloc: Global,
     book: &Layered<'_>,
-    footprint: &mut Footprint,
+    footprint: &mut ReadFootprint,
     command: &Command,
 ) -> Result<Delta, AttemptErr>
     ensures { Attempts (command_meaning command.now) book.now.cells footprint.old result footprint.new }

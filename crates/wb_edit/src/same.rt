@@ -15,7 +15,7 @@ fn are_same_names(one: &Name, other: &Name, two: &Name, another: &Name) -> bool
     other.is_same(another)
 }
 
-fn is_same_place(one: &Name, at: &AnyIndex, two: &Name, other: &AnyIndex) -> bool
+pub(crate) fn is_same_place(one: &Name, at: &AnyIndex, two: &Name, other: &AnyIndex) -> bool
     ensures { Decides result ((one.now ≡ two.now) × (at.now ≡ other.now)) }
 {
     if !one.is_same(two) {

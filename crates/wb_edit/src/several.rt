@@ -5,18 +5,18 @@ ghost use Rattle.wb_edit.specs.Several.{AttemptsAll, IsPlanOfAll, MakesNext};
 
 use crate::attempt_err::AttemptErr;
 use crate::command::Command;
-use crate::footprint::Footprint;
+use crate::footprint::ReadFootprint;
 use crate::planning::attempt;
 use std::alloc::Global;
 use wb_book::Book;
-use wb_cells::{Delta, Refusal};
+use wb_cells::{Delta, WhyRefused};
 use wb_layers::Layered;
 
 /// Why there is no plan of several commands.
 #[derive(Drop)]
 pub enum PlanAllErr {
     /// The place of the first command that is refused, from 0, why, and what was read up to and with the test that refused it.
-    Refused(usize, Refusal, Footprint),
+    Refused(usize, WhyRefused, ReadFootprint),
     /// No memory was left; they may be planned again.
     NoMemory,
 }
@@ -25,7 +25,7 @@ pub enum PlanAllErr {
 #[derive(Clone, Copy, Debug)]
 pub(crate) enum AllErr {
     /// The command at this place is refused, and why.
-    Refused(usize, Refusal),
+    Refused(usize, WhyRefused),
     /// A growth was refused.
     NoMemory,
 }
@@ -40,10 +40,10 @@ pub fn plan_all(
     alloc: Global,
     book: &Book,
     commands: &[Command],
-) -> Result<(Delta, Footprint, usize), PlanAllErr>
+) -> Result<(Delta, ReadFootprint, usize), PlanAllErr>
     ensures { IsPlanOfAll commands.now book.now.cells result }
 {
-    let mut footprint = Footprint::new(alloc);
+    let mut footprint = ReadFootprint::new(alloc);
     let layered = Layered::of(alloc, book);
     match attempt_all(alloc, layered, &mut footprint, commands) {
         Ok(laid) => match laid.into_delta() {
@@ -62,7 +62,7 @@ pub fn plan_all(
 fn attempt_all<'a>(
     alloc: Global,
     book: Layered<'a>,
-    footprint: &mut Footprint,
+    footprint: &mut ReadFootprint,
     commands: &[Command],
 ) -> Result<Layered<'a>, AllErr>
     requires { book.laid ≡ [] }
@@ -82,7 +82,7 @@ fn attempt_all<'a>(
 fn make_next<'a>(
     alloc: Global,
     laid: Layered<'a>,
-    footprint: &mut Footprint,
+    footprint: &mut ReadFootprint,
     place: usize,
     command: &Command,
 ) -> Result<Layered<'a>, AllErr>

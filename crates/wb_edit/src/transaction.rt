@@ -87,7 +87,7 @@ impl Transaction {
         ensures { IfOk result (λ t. t ≡ self.now) }
     {
         let commands = copied(alloc, self.commands())?;
-        let note = copied_note(alloc, &self.note)?;
+        let note = Note::copied(alloc, self.note())?;
         Ok(Transaction { commands, note })
     }
 
@@ -98,7 +98,7 @@ impl Transaction {
         if !are_same(self.commands(), other.commands()) {
             return false;
         }
-        is_same_note(&self.note, &other.note)
+        Note::are_same(&self.note, &other.note)
     }
 }
 
@@ -115,18 +115,6 @@ fn copied(alloc: Global, commands: &[Command]) -> Result<Vec<Command>, NoMemory>
     Ok(copies)
 }
 
-fn copied_note(alloc: Global, note: &Option<Note>) -> Result<Option<Note>, NoMemory>
-    ensures { IfOk result (λ n. n ≡ note.now) }
-{
-    match note {
-        Some(note) => match note.copy(alloc) {
-            Ok(copy) => Ok(Some(copy)),
-            Err(why) => Err(why),
-        },
-        None => Ok(None),
-    }
-}
-
 fn are_same(commands: &[Command], others: &[Command]) -> bool
     ensures { Decides result (commands.now ≡ others.now) }
 {
@@ -139,16 +127,6 @@ fn are_same(commands: &[Command], others: &[Command]) -> bool
         }
     }
     true
-}
-
-fn is_same_note(note: &Option<Note>, other: &Option<Note>) -> bool
-    ensures { Decides result (note.now ≡ other.now) }
-{
-    match (note, other) {
-        (Some(note), Some(by)) => note.is_same(by),
-        (None, None) => true,
-        _ => false,
-    }
 }
 
 // Computes nothing. Callers learn what each command is.

@@ -4,8 +4,8 @@ use Rattle.wb_cells.specs.declared.values.index.Index.{Index}
 use Rattle.wb_cells.specs.declared.values.index.Index.TheVariants.{Point}
 use Rattle.wb_cells.specs.Runs.{rectangle_entries, numbered_entries}
 use Rattle.wb_rect.specs.Product.{product}
-use Rattle.wb_elements.specs.declared.kept.Kept.{Kept}
-use Rattle.wb_elements.specs.declared.kept.Kept.TheVariants.{Listed, Same, Each}
+use Rattle.wb_elements.specs.declared.kept.KeptChanges.{KeptChanges}
+use Rattle.wb_elements.specs.declared.kept.KeptChanges.TheVariants.{Listed, Same, Each}
 use Rattle.wb_elements.specs.Piecewise.Marked.{as_changes}
 
 -- each index of a rectangle becomes a number
@@ -13,7 +13,7 @@ abbrev pub IsWhole : List (List ℤ) → List (List ℤ × Option ℤ) → Type 
 IsWhole rs es = (ns : List ℤ) × (length ns ≡ length (product rs)) × (es ≡ numbered_entries rs ns)
 
 -- the changes of elements that are kept
-abbrev pub listed : Kept → List (Index × Option ℤ)
+abbrev pub listed : KeptChanges → List (Index × Option ℤ)
 listed (Listed v) = v.items
 listed (Same b) = as_changes Point (rectangle_entries b.ranges b.number)
 listed (Each b) = as_changes Point (numbered_entries b.ranges b.numbers.items)

@@ -2,13 +2,13 @@
 use Rattle.std.specs.Prelude.{ℤ, Bool, ◌&&◌, List, [], ◌∷◌, map, Option, Some, None, option_map, is_some}
 use Rattle.std.specs.BTreeMap.{is_at}
 use Rattle.std.specs.Map.{lookup, set_value}
-use Rattle.wb_cells.specs.declared.changes.row.Row.{Row}
+use Rattle.wb_cells.specs.declared.changes.row.IndexedRow.{IndexedRow}
 use Rattle.wb_cells.specs.declared.values.index.Index.{Index}
 use Rattle.wb_cells.specs.Cells.{Changes, index_cmp}
 use Rattle.wb_cells.specs.Runs.{cell_of, value_of}
 
 -- the changes of the cells of a row, where f says for which index a key stands
-abbrev pub row_changes : {I : Type 0} → (I → Index) → Row → List (I × Option ℤ) → Changes
+abbrev pub row_changes : {I : Type 0} → (I → Index) → IndexedRow → List (I × Option ℤ) → Changes
 row_changes f row es = map (λ e. record { cell = cell_of row (f e.0); value = option_map (value_of row) e.1 }) es
 
 -- the element at an index

@@ -1,7 +1,7 @@
 //! Changes at the indices of a rectangle, whether to one number or to a number each.
 
 ghost use Rattle.std.specs.Prelude.{◌≡◌, ◌<◌, ℤ, List, Option, true, false, length, min, get_or, slice_get, IfOk};
-ghost use Rattle.wb_cells.specs.declared.changes.row.Row.{Row as row_type};
+ghost use Rattle.wb_cells.specs.declared.changes.row.IndexedRow.{IndexedRow as row_type};
 ghost use Rattle.wb_cells.specs.declared.values.index.Index.TheVariants.{Point as point_index};
 ghost use Rattle.wb_cells.specs.Runs.{rectangle_entries, numbered_entries};
 ghost use Rattle.wb_cells.specs.Shapes.{indices};
@@ -11,13 +11,13 @@ ghost use Rattle.wb_elements.specs.Entries.{with_all};
 ghost use Rattle.wb_elements.specs.Piecewise.Marked.{as_changes};
 
 use crate::elements::Elements;
-use crate::kept::Kept;
+use crate::kept::KeptChanges;
 use std::alloc::Global;
-use wb_cells::{AnyIndex, AnyRect, RectangleChanges, RectangleNumbers, Row};
+use wb_cells::{AnyIndex, AnyRect, IndexedRow, RectangleChanges, RectangleNumbers};
 use wb_range::NoMemory;
 
 /// Changes of cells of a row at the indices of a rectangle.
-pub trait Block {
+pub trait ChangeBlock {
     ghost row_of: { Self → row_type };
 
     ghost ranges_of: { Self → List (List ℤ) };
@@ -25,7 +25,7 @@ pub trait Block {
     ghost entries: { Self → List (List ℤ × Option ℤ) };
 
     /// The cells of which those that change are.
-    fn of_row(&self) -> Row
+    fn of_row(&self) -> IndexedRow
         ensures { result ≡ row_of self.now };
 
     /// The rectangle.
@@ -54,18 +54,18 @@ pub trait Block {
         ensures mapping { elements.new.1 ≡ elements.old.1 };
 
     /// The changes, copied.
-    fn copied(&self, alloc: Global) -> Result<Kept, NoMemory>
+    fn copied(&self, alloc: Global) -> Result<KeptChanges, NoMemory>
         ensures { IfOk result (λ k. listed k ≡ as_changes point_index (entries self.now)) };
 }
 
-impl Block for RectangleChanges {
+impl ChangeBlock for RectangleChanges {
     ghost row_of = { λ b. b.row };
 
     ghost ranges_of = { λ b. b.ranges };
 
     ghost entries = { λ b. rectangle_entries b.ranges b.number };
 
-    fn of_row(&self) -> Row {
+    fn of_row(&self) -> IndexedRow {
         *self.row()
     }
 
@@ -100,8 +100,8 @@ impl Block for RectangleChanges {
         }
     }
 
-    fn copied(&self, _alloc: Global) -> Result<Kept, NoMemory> {
-        Ok(Kept::Same(RectangleChanges::new(*self.row(), *self.ranges(), self.number())))
+    fn copied(&self, _alloc: Global) -> Result<KeptChanges, NoMemory> {
+        Ok(KeptChanges::Same(RectangleChanges::new(*self.row(), *self.ranges(), self.number())))
     }
 }
 
@@ -118,14 +118,14 @@ fn lesser(one: usize, other: usize) -> usize
     if one < other { one } else { other }
 }
 
-impl Block for RectangleNumbers {
+impl ChangeBlock for RectangleNumbers {
     ghost row_of = { λ b. b.row };
 
     ghost ranges_of = { λ b. b.ranges };
 
     ghost entries = { λ b. numbered_entries b.ranges b.numbers.items };
 
-    fn of_row(&self) -> Row {
+    fn of_row(&self) -> IndexedRow {
         *self.row()
     }
 
@@ -154,8 +154,8 @@ impl Block for RectangleNumbers {
         elements.set_numbers(self.numbers())
     }
 
-    fn copied(&self, alloc: Global) -> Result<Kept, NoMemory> {
+    fn copied(&self, alloc: Global) -> Result<KeptChanges, NoMemory> {
         let numbers = Vec::from_slice(alloc, self.numbers())?;
-        Ok(Kept::Each(RectangleNumbers::new(*self.row(), *self.ranges(), numbers)))
+        Ok(KeptChanges::Each(RectangleNumbers::new(*self.row(), *self.ranges(), numbers)))
     }
 }

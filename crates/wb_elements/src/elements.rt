@@ -18,7 +18,7 @@ ghost use Rattle.wb_cells.specs.declared.values.index.Index.TheVariants.{Point a
 
 pub(crate) mod typed;
 
-use crate::block::Block;
+use crate::block::ChangeBlock;
 use crate::filled::filled;
 use crate::made::made;
 use crate::piece::{Pairs, points_on, texts_on};
@@ -27,28 +27,28 @@ use std::alloc::Global;
 use std::collections::BTreeMap;
 use std::marker::Model;
 use wb_arrays::{MoveErr, Mover, Op, Pieces, ReduceErr, Store, reduce};
-use wb_cells::{AnyIndex, AnyLayout, AnyRect, AsIndex, Laid};
-use wb_dist::{Distribution, Home, Layout};
+use wb_cells::{AnyIndex, AnyLayout, AnyRect, AsIndex, LayoutByRank};
+use wb_dist::{Distribution, Layout, SingleLocale};
 use wb_range::{Domain, Mapping, NoMemory};
 use wb_rect::Rect;
 use wb_sets::{Assoc, Label};
 
 /// The elements of an array, by the form of its indices.
 #[derive(Drop)]
-pub enum Form {
+pub enum ElementsForm {
     /// Integers.
-    Line(Pieces<Rect<1>, Layout<1>>),
+    Rank1(Pieces<Rect<1>, Layout<1>>),
     /// Pairs.
-    Plane(Pieces<Rect<2>, Layout<2>>),
+    Rank2(Pieces<Rect<2>, Layout<2>>),
     /// Triples.
-    Solid(Pieces<Rect<3>, Layout<3>>),
+    Rank3(Pieces<Rect<3>, Layout<3>>),
     /// Texts.
-    Text(Pieces<Assoc<Label>, Home<Label>>),
+    Text(Pieces<Assoc<Label>, SingleLocale<Label>>),
 }
 
 /// The elements of an array, kept in pieces. Where they were made at the indices of a rectangle, the ranges of that are known.
 pub struct Elements {
-    form: Form,
+    form: ElementsForm,
     ranges: Option<AnyRect>,
 }
 
@@ -75,14 +75,14 @@ impl Model for Elements {
 
 impl Elements {
     /// The element at an index, and the place to pass for the index after it: from place to place there is no search.
-    pub fn get_near(&self, index: &AnyIndex, near: usize) -> (Option<i64>, usize)
+    pub fn get_from(&self, index: &AnyIndex, near: usize) -> (Option<i64>, usize)
         ensures { result.0 ≡ value_at index_cmp self.now.0 index.now }
     {
         match &self.form {
-            Form::Line(pieces) => value_near(pieces, index, near),
-            Form::Plane(pieces) => value_near(pieces, index, near),
-            Form::Solid(pieces) => value_near(pieces, index, near),
-            Form::Text(pieces) => value_near(pieces, index, near),
+            ElementsForm::Rank1(pieces) => value_near(pieces, index, near),
+            ElementsForm::Rank2(pieces) => value_near(pieces, index, near),
+            ElementsForm::Rank3(pieces) => value_near(pieces, index, near),
+            ElementsForm::Text(pieces) => value_near(pieces, index, near),
         }
     }
 
@@ -99,10 +99,10 @@ impl Elements {
         ensures { result ≡ self.now.1.1 }
     {
         match &self.form {
-            Form::Line(_) => 1,
-            Form::Plane(_) => 2,
-            Form::Solid(_) => 3,
-            Form::Text(_) => 0,
+            ElementsForm::Rank1(_) => 1,
+            ElementsForm::Rank2(_) => 2,
+            ElementsForm::Rank3(_) => 3,
+            ElementsForm::Text(_) => 0,
         }
     }
 
@@ -111,29 +111,29 @@ impl Elements {
         ensures { result ≡ true → self.now.1 ≡ (to.now, rank) }
     {
         match &self.form {
-            Form::Line(pieces) => {
+            ElementsForm::Rank1(pieces) => {
                 if rank == 1 && to.is_of_rank(1) {
                     pieces.mapping() == line_of(to)
                 } else {
                     false
                 }
             }
-            Form::Plane(pieces) => {
+            ElementsForm::Rank2(pieces) => {
                 if rank == 2 && to.is_of_rank(2) {
                     pieces.mapping() == plane_of(to)
                 } else {
                     false
                 }
             }
-            Form::Solid(pieces) => {
+            ElementsForm::Rank3(pieces) => {
                 if rank == 3 && to.is_of_rank(3) {
                     pieces.mapping() == solid_of(to)
                 } else {
                     false
                 }
             }
-            Form::Text(_) => match to.laid() {
-                Laid::Whole => rank == 0,
+            ElementsForm::Text(_) => match to.laid() {
+                LayoutByRank::Whole => rank == 0,
                 _ => false,
             },
         }
@@ -152,28 +152,28 @@ impl Elements {
         ensures no_thread { result ≡ Err MoveErr.NoThread → V.may_lack_threads mover.now }
     {
         match &self.form {
-            Form::Line(pieces) => match mover.move_pieces(alloc, pieces, &line_of(to)) {
+            ElementsForm::Rank1(pieces) => match mover.move_pieces(alloc, pieces, &line_of(to)) {
                 Ok(pieces) => Ok(Elements {
-                    form: Form::Line(pieces),
+                    form: ElementsForm::Rank1(pieces),
                     ranges: self.ranges,
                 }),
                 Err(why) => Err(why),
             },
-            Form::Plane(pieces) => match mover.move_pieces(alloc, pieces, &plane_of(to)) {
+            ElementsForm::Rank2(pieces) => match mover.move_pieces(alloc, pieces, &plane_of(to)) {
                 Ok(pieces) => Ok(Elements {
-                    form: Form::Plane(pieces),
+                    form: ElementsForm::Rank2(pieces),
                     ranges: self.ranges,
                 }),
                 Err(why) => Err(why),
             },
-            Form::Solid(pieces) => match mover.move_pieces(alloc, pieces, &solid_of(to)) {
+            ElementsForm::Rank3(pieces) => match mover.move_pieces(alloc, pieces, &solid_of(to)) {
                 Ok(pieces) => Ok(Elements {
-                    form: Form::Solid(pieces),
+                    form: ElementsForm::Rank3(pieces),
                     ranges: self.ranges,
                 }),
                 Err(why) => Err(why),
             },
-            Form::Text(_) => unreachable!(),
+            ElementsForm::Text(_) => unreachable!(),
         }
     }
 
@@ -195,27 +195,27 @@ impl Elements {
         if rank == 1 {
             let pieces = made(alloc, old, changes, &line_of(to))?;
             return Ok(Elements {
-                form: Form::Line(pieces),
+                form: ElementsForm::Rank1(pieces),
                 ranges: None,
             });
         }
         if rank == 2 {
             let pieces = made(alloc, old, changes, &plane_of(to))?;
             return Ok(Elements {
-                form: Form::Plane(pieces),
+                form: ElementsForm::Rank2(pieces),
                 ranges: None,
             });
         }
         if rank == 3 {
             let pieces = made(alloc, old, changes, &solid_of(to))?;
             return Ok(Elements {
-                form: Form::Solid(pieces),
+                form: ElementsForm::Rank3(pieces),
                 ranges: None,
             });
         }
-        let pieces = made(alloc, old, changes, &Home::new())?;
+        let pieces = made(alloc, old, changes, &SingleLocale::new())?;
         Ok(Elements {
-            form: Form::Text(pieces),
+            form: ElementsForm::Text(pieces),
             ranges: None,
         })
     }
@@ -287,16 +287,16 @@ impl Elements {
         ensures { IfOk result (λ v. v.items ≡ map (λ e. e.1) self.now.0) }
     {
         match &self.form {
-            Form::Line(pieces) => numbers_of(alloc, pieces),
-            Form::Plane(pieces) => numbers_of(alloc, pieces),
-            Form::Solid(pieces) => numbers_of(alloc, pieces),
-            Form::Text(pieces) => numbers_of(alloc, pieces),
+            ElementsForm::Rank1(pieces) => numbers_of(alloc, pieces),
+            ElementsForm::Rank2(pieces) => numbers_of(alloc, pieces),
+            ElementsForm::Rank3(pieces) => numbers_of(alloc, pieces),
+            ElementsForm::Text(pieces) => numbers_of(alloc, pieces),
         }
     }
 
     /// Elements by a mapping, for indices of a rank: at each index of a rectangle the number that is set there. `None` where
     /// that can't be done in a short way.
-    pub fn of_block<B: Block>(
+    pub fn of_block<B: ChangeBlock>(
         alloc: Global,
         block: &B,
         to: &AnyLayout,
@@ -312,7 +312,7 @@ impl Elements {
         if rank == 1 && to.is_of_rank(1) {
             return match filled(alloc, block, &line_of(to)) {
                 Ok(Some(pieces)) => Ok(Some(Elements {
-                    form: Form::Line(pieces),
+                    form: ElementsForm::Rank1(pieces),
                     ranges: Some(ranges),
                 })),
                 Ok(None) => Ok(None),
@@ -322,7 +322,7 @@ impl Elements {
         if rank == 2 && to.is_of_rank(2) {
             return match filled(alloc, block, &plane_of(to)) {
                 Ok(Some(pieces)) => Ok(Some(Elements {
-                    form: Form::Plane(pieces),
+                    form: ElementsForm::Rank2(pieces),
                     ranges: Some(ranges),
                 })),
                 Ok(None) => Ok(None),
@@ -332,7 +332,7 @@ impl Elements {
         if rank == 3 && to.is_of_rank(3) {
             return match filled(alloc, block, &solid_of(to)) {
                 Ok(Some(pieces)) => Ok(Some(Elements {
-                    form: Form::Solid(pieces),
+                    form: ElementsForm::Rank3(pieces),
                     ranges: Some(ranges),
                 })),
                 Ok(None) => Ok(None),
@@ -348,10 +348,10 @@ impl Elements {
         ensures ascending { IsStrictlySortedBy index_cmp (keys_of self.now.0) }
     {
         match &self.form {
-            Form::Line(pieces) => len_of(pieces),
-            Form::Plane(pieces) => len_of(pieces),
-            Form::Solid(pieces) => len_of(pieces),
-            Form::Text(pieces) => len_of(pieces),
+            ElementsForm::Rank1(pieces) => len_of(pieces),
+            ElementsForm::Rank2(pieces) => len_of(pieces),
+            ElementsForm::Rank3(pieces) => len_of(pieces),
+            ElementsForm::Text(pieces) => len_of(pieces),
         }
     }
 
@@ -360,19 +360,19 @@ impl Elements {
         ensures { option_map lent result ≡ piece_in self.now.1.0 self.now.0 locale }
     {
         match &self.form {
-            Form::Line(pieces) => match points_on(pieces, locale) {
-                Some(pairs) => Some(Pairs::Line(pairs)),
+            ElementsForm::Rank1(pieces) => match points_on(pieces, locale) {
+                Some(pairs) => Some(Pairs::Rank1(pairs)),
                 None => None,
             },
-            Form::Plane(pieces) => match points_on(pieces, locale) {
-                Some(pairs) => Some(Pairs::Plane(pairs)),
+            ElementsForm::Rank2(pieces) => match points_on(pieces, locale) {
+                Some(pairs) => Some(Pairs::Rank2(pairs)),
                 None => None,
             },
-            Form::Solid(pieces) => match points_on(pieces, locale) {
-                Some(pairs) => Some(Pairs::Solid(pairs)),
+            ElementsForm::Rank3(pieces) => match points_on(pieces, locale) {
+                Some(pairs) => Some(Pairs::Rank3(pairs)),
                 None => None,
             },
-            Form::Text(pieces) => match texts_on(pieces, locale) {
+            ElementsForm::Text(pieces) => match texts_on(pieces, locale) {
                 Some(pairs) => Some(Pairs::Text(pairs)),
                 None => None,
             },
@@ -387,10 +387,10 @@ impl Elements {
         ensures overflow { result ≡ Err ReduceErr.Overflow → op ≡ Op.Sum }
     {
         match &self.form {
-            Form::Line(pieces) => reduction_of(pieces, op, mover),
-            Form::Plane(pieces) => reduction_of(pieces, op, mover),
-            Form::Solid(pieces) => reduction_of(pieces, op, mover),
-            Form::Text(pieces) => reduction_of(pieces, op, mover),
+            ElementsForm::Rank1(pieces) => reduction_of(pieces, op, mover),
+            ElementsForm::Rank2(pieces) => reduction_of(pieces, op, mover),
+            ElementsForm::Rank3(pieces) => reduction_of(pieces, op, mover),
+            ElementsForm::Text(pieces) => reduction_of(pieces, op, mover),
         }
     }
 
@@ -400,29 +400,29 @@ impl Elements {
         ensures ascending { IfOk result (λ v. IsStrictlySortedBy index_cmp (keys_of v.items)) }
     {
         match &self.form {
-            Form::Line(pieces) => pairs_of(alloc, pieces),
-            Form::Plane(pieces) => pairs_of(alloc, pieces),
-            Form::Solid(pieces) => pairs_of(alloc, pieces),
-            Form::Text(pieces) => pairs_of(alloc, pieces),
+            ElementsForm::Rank1(pieces) => pairs_of(alloc, pieces),
+            ElementsForm::Rank2(pieces) => pairs_of(alloc, pieces),
+            ElementsForm::Rank3(pieces) => pairs_of(alloc, pieces),
+            ElementsForm::Text(pieces) => pairs_of(alloc, pieces),
         }
     }
 }
 
-fn set_form(form: &mut Form, index: &AnyIndex, value: i64, near: usize) -> usize
+fn set_form(form: &mut ElementsForm, index: &AnyIndex, value: i64, near: usize) -> usize
     requires { IsKept form.old }
     ensures elements { (seen_of form.new).0 ≡ set_value (is_at (index_cmp index.now)) (seen_of form.old).0 value }
     ensures mapping { (seen_of form.new).1 ≡ (seen_of form.old).1 }
     ensures kept { IsKept form.new }
 {
     match form {
-        Form::Line(pieces) => set_in(pieces, index, value, near),
-        Form::Plane(pieces) => set_in(pieces, index, value, near),
-        Form::Solid(pieces) => set_in(pieces, index, value, near),
-        Form::Text(pieces) => set_in(pieces, index, value, near),
+        ElementsForm::Rank1(pieces) => set_in(pieces, index, value, near),
+        ElementsForm::Rank2(pieces) => set_in(pieces, index, value, near),
+        ElementsForm::Rank3(pieces) => set_in(pieces, index, value, near),
+        ElementsForm::Text(pieces) => set_in(pieces, index, value, near),
     }
 }
 
-fn fill_form(form: &mut Form, number: &i64) -> bool
+fn fill_form(form: &mut ElementsForm, number: &i64) -> bool
     requires { IsKept form.old }
     ensures done { result ≡ true → (seen_of form.new).0 ≡ map (λ e. (e.0, number.now)) (seen_of form.old).0 }
     ensures left { result ≡ false → (seen_of form.new).0 ≡ (seen_of form.old).0 }
@@ -431,14 +431,14 @@ fn fill_form(form: &mut Form, number: &i64) -> bool
     ensures names { keys_of (seen_of form.new).0 ≡ keys_of (seen_of form.old).0 }
 {
     match form {
-        Form::Line(pieces) => fill_in(pieces, number),
-        Form::Plane(pieces) => fill_in(pieces, number),
-        Form::Solid(pieces) => fill_in(pieces, number),
-        Form::Text(pieces) => fill_in(pieces, number),
+        ElementsForm::Rank1(pieces) => fill_in(pieces, number),
+        ElementsForm::Rank2(pieces) => fill_in(pieces, number),
+        ElementsForm::Rank3(pieces) => fill_in(pieces, number),
+        ElementsForm::Text(pieces) => fill_in(pieces, number),
     }
 }
 
-fn number_form(form: &mut Form, numbers: &[i64]) -> bool
+fn number_form(form: &mut ElementsForm, numbers: &[i64]) -> bool
     // The indices have the form that they are kept in.
     requires { IsKept form.old }
 
@@ -453,10 +453,10 @@ fn number_form(form: &mut Form, numbers: &[i64]) -> bool
     ensures names { keys_of (seen_of form.new).0 ≡ keys_of (seen_of form.old).0 }
 {
     match form {
-        Form::Line(pieces) => set_numbers_in(pieces, numbers),
-        Form::Plane(pieces) => set_numbers_in(pieces, numbers),
-        Form::Solid(pieces) => set_numbers_in(pieces, numbers),
-        Form::Text(pieces) => set_numbers_in(pieces, numbers),
+        ElementsForm::Rank1(pieces) => set_numbers_in(pieces, numbers),
+        ElementsForm::Rank2(pieces) => set_numbers_in(pieces, numbers),
+        ElementsForm::Rank3(pieces) => set_numbers_in(pieces, numbers),
+        ElementsForm::Text(pieces) => set_numbers_in(pieces, numbers),
     }
 }
 
@@ -466,18 +466,18 @@ fn line_of(to: &AnyLayout) -> Layout<1>
     ensures { result ≡ to.now }
 {
     match to.laid() {
-        Laid::Line(layout) => layout,
-        Laid::Plane(layout) => {
+        LayoutByRank::Rank1(layout) => layout,
+        LayoutByRank::Rank2(layout) => {
             // For the proof: the mapping is one for rank 2.
             let _good = layout.locales();
             Layout::new(Distribution::Whole)
         }
-        Laid::Solid(layout) => {
+        LayoutByRank::Rank3(layout) => {
             // For the proof: the mapping is one for rank 3.
             let _good = layout.locales();
             Layout::new(Distribution::Whole)
         }
-        Laid::Whole => Layout::new(Distribution::Whole),
+        LayoutByRank::Whole => Layout::new(Distribution::Whole),
     }
 }
 
@@ -487,18 +487,18 @@ fn plane_of(to: &AnyLayout) -> Layout<2>
     ensures { result ≡ to.now }
 {
     match to.laid() {
-        Laid::Line(layout) => {
+        LayoutByRank::Rank1(layout) => {
             // For the proof: the mapping is one for rank 1.
             let _good = layout.locales();
             Layout::new(Distribution::Whole)
         }
-        Laid::Plane(layout) => layout,
-        Laid::Solid(layout) => {
+        LayoutByRank::Rank2(layout) => layout,
+        LayoutByRank::Rank3(layout) => {
             // For the proof: the mapping is one for rank 3.
             let _good = layout.locales();
             Layout::new(Distribution::Whole)
         }
-        Laid::Whole => Layout::new(Distribution::Whole),
+        LayoutByRank::Whole => Layout::new(Distribution::Whole),
     }
 }
 
@@ -508,18 +508,18 @@ fn solid_of(to: &AnyLayout) -> Layout<3>
     ensures { result ≡ to.now }
 {
     match to.laid() {
-        Laid::Line(layout) => {
+        LayoutByRank::Rank1(layout) => {
             // For the proof: the mapping is one for rank 1.
             let _good = layout.locales();
             Layout::new(Distribution::Whole)
         }
-        Laid::Plane(layout) => {
+        LayoutByRank::Rank2(layout) => {
             // For the proof: the mapping is one for rank 2.
             let _good = layout.locales();
             Layout::new(Distribution::Whole)
         }
-        Laid::Solid(layout) => layout,
-        Laid::Whole => Layout::new(Distribution::Whole),
+        LayoutByRank::Rank3(layout) => layout,
+        LayoutByRank::Whole => Layout::new(Distribution::Whole),
     }
 }
 
@@ -698,7 +698,7 @@ where
     ensures { result.0 ≡ value_at index_cmp (indexed D.Index.as_index pieces.now.0) index.now }
 {
     match D::Index::of(index) {
-        Some(key) => pieces.get_near(key, near),
+        Some(key) => pieces.get_from(key, near),
         None => (None, near),
     }
 }

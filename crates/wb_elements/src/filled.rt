@@ -9,7 +9,7 @@ ghost use Rattle.wb_elements.specs.Piecewise.Changed.{all_set};
 ghost use Rattle.wb_elements.specs.Piecewise.Indexed.{indexed, AllOf};
 ghost use Rattle.wb_elements.specs.Piecewise.Marked.{as_changes};
 
-use crate::block::Block;
+use crate::block::ChangeBlock;
 use std::alloc::Global;
 use std::cmp::Ordering;
 use wb_arrays::Pieces;
@@ -18,7 +18,7 @@ use wb_range::{Domain, Key, Mapping, NoMemory};
 
 /// Elements by a mapping, at each index of a rectangle the number that is set there; `None` where the indices don't ascend,
 /// are of another form, or have no number.
-pub(crate) fn filled<D: Domain, M: Mapping<Index = D::Index>, B: Block>(
+pub(crate) fn filled<D: Domain, M: Mapping<Index = D::Index>, B: ChangeBlock>(
     alloc: Global,
     block: &B,
     mapping: &M,
@@ -40,7 +40,7 @@ where
 }
 
 // The numbers after their keys, if these ascend.
-fn filled_pairs<I: AsIndex, B: Block>(
+fn filled_pairs<I: AsIndex, B: ChangeBlock>(
     alloc: Global,
     block: &B,
 ) -> Result<Option<Vec<(I, i64)>>, NoMemory>
@@ -67,7 +67,7 @@ fn filled_pairs<I: AsIndex, B: Block>(
 }
 
 // The number at a place after its key, if there is one and the index has the form.
-fn pair_at<I: AsIndex, B: Block>(block: &B, at: usize) -> Option<(I, i64)>
+fn pair_at<I: AsIndex, B: ChangeBlock>(block: &B, at: usize) -> Option<(I, i64)>
     requires { at < length (B.entries block.now) }
     ensures value { IfSome result (λ p. (I.as_index p.0, Some p.1) ≡ get_or (as_changes point_index (B.entries block.now)) at (I.as_index p.0, Some p.1)) }
     ensures formed { IfSome result (λ p. I.is_of (I.as_index p.0) ≡ true) }

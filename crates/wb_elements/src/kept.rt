@@ -4,7 +4,7 @@ use wb_cells::{AnyIndex, RectangleChanges, RectangleNumbers};
 
 /// How changes of the elements of an array are kept.
 #[derive(Drop)]
-pub enum Kept {
+pub enum KeptChanges {
     /// Each by its index, to a number or to absent.
     Listed(Vec<(AnyIndex, Option<i64>)>),
     /// The same number, or none, at each index of a rectangle.

@@ -12,10 +12,9 @@ mod piece;
 mod ranged;
 mod walk;
 
-pub use crate::block::Block;
+pub use crate::block::ChangeBlock;
 pub use crate::elements::typed::PieceKey;
-pub use crate::elements::{Elements, Form};
-pub use crate::kept::Kept;
+pub use crate::elements::{Elements, ElementsForm};
+pub use crate::kept::KeptChanges;
 pub use crate::piece::Pairs;
 pub use crate::walk::{is_block_there, list_block, write_block};
-pub use wb_cells::AsIndex;

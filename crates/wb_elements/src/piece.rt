@@ -9,7 +9,7 @@ ghost use Rattle.wb_elements.specs.Piecewise.Indexed.{indexed, AllOf};
 ghost use Rattle.wb_elements.specs.Piecewise.Lent.{piece_in};
 
 use wb_arrays::Pieces;
-use wb_dist::{Home, Layout};
+use wb_dist::{Layout, SingleLocale};
 use wb_range::Mapping;
 use wb_rect::Rect;
 use wb_sets::{Assoc, Label};
@@ -18,11 +18,11 @@ use wb_sets::{Assoc, Label};
 #[derive(Clone, Copy, Drop)]
 pub enum Pairs<'a> {
     /// Integers.
-    Line(&'a [([i64; 1], i64)]),
+    Rank1(&'a [([i64; 1], i64)]),
     /// Pairs.
-    Plane(&'a [([i64; 2], i64)]),
+    Rank2(&'a [([i64; 2], i64)]),
     /// Triples.
-    Solid(&'a [([i64; 3], i64)]),
+    Rank3(&'a [([i64; 3], i64)]),
     /// Texts.
     Text(&'a [(Label, i64)]),
 }
@@ -50,7 +50,7 @@ pub(crate) fn points_on<const R: usize>(
 
 /// The pairs of a locale at indices that are texts.
 pub(crate) fn texts_on(
-    pieces: &Pieces<Assoc<Label>, Home<Label>>,
+    pieces: &Pieces<Assoc<Label>, SingleLocale<Label>>,
     locale: usize,
 ) -> Option<&[(Label, i64)]>
     requires { AllOf text_index is_text pieces.now.0 }

@@ -4,7 +4,7 @@ use Rattle.std.proofs.Common.{None, List, [], ◌++◌, length, take, get_or, re
 use Rattle.std.specs.List.{list_any}
 use Rattle.std.proofs.lemmas.List.{take_all}
 use Rattle.std.proofs.lemmas.List.Folds.{list_any_more, list_any-append}
-use Rattle.wb_footprints.specs.declared.blocks.Block.{Block}
+use Rattle.wb_footprints.specs.declared.marks.blocks.MarkBlock.{MarkBlock}
 use Rattle.wb_footprints.specs.Relation.{IsLeastAfter}
 use Rattle.wb_cells.specs.declared.values.index.Index.{Index}
 use Rattle.wb_footprints.specs.Indices.{in_indices}
@@ -63,7 +63,7 @@ pub none_least : (ps : List Index) (after : ℕ) → IsLeastAfter (λ n. list_an
 none_least ps after = λ n up. any_none ps
 
 -- one block more
-pub block_more : (xs : List Block) (i after : ℕ) (d : Block) → i < length xs → (x : Block) → x ≡ get_or xs i d → (ps : List Index) (r : Option ℕ) →
+pub block_more : (xs : List MarkBlock) (i after : ℕ) (d : MarkBlock) → i < length xs → (x : MarkBlock) → x ≡ get_or xs i d → (ps : List Index) (r : Option ℕ) →
     IsLeastAfter (λ n. list_any (λ p. in_blocks (take i xs) p n) ps || (list_any (in_indices x.indices) ps && numbered x.numbers n)) after r →
     IsLeastAfter (λ n. list_any (λ p. in_blocks (take (i + 1) xs) p n) ps) after r
 block_more xs i after d l x e ps r h =
@@ -74,7 +74,7 @@ block_more xs i after d l x e ps r h =
     ∙ any_or (λ p. in_blocks (take i xs) p n) (λ p. in_indices x.indices p && numbered x.numbers n) ps
     ∙ ap (λ b. list_any (λ p. in_blocks (take i xs) p n) ps || b) (and_last (numbered x.numbers n) (in_indices x.indices) ps)) h
 
-pub blocks_all : (xs : List Block) (i after : ℕ) → length xs ≤ i → (ps : List Index) (r : Option ℕ) →
+pub blocks_all : (xs : List MarkBlock) (i after : ℕ) → length xs ≤ i → (ps : List Index) (r : Option ℕ) →
     IsLeastAfter (λ n. list_any (λ p. in_blocks (take i xs) p n) ps) after r → IsLeastAfter (λ n. list_any (λ p. in_blocks xs p n) ps) after r
 blocks_all xs i after l ps r h = least_like (λ n. list_any (λ p. in_blocks (take i xs) p n) ps) (λ n. list_any (λ p. in_blocks xs p n) ps) after r
     (λ n. ap (λ bs. list_any (λ p. in_blocks bs p n) ps) (sym (take_all i xs l))) h

@@ -5,19 +5,21 @@ use Rattle.std.specs.declared.cmp.Ordering.{Ordering}
 use Rattle.std.specs.declared.cmp.Ordering.TheVariants.{Less, Equal, Greater}
 use Rattle.wb_cells.specs.declared.cells.cell.Cell.{Cell}
 use Rattle.wb_cells.specs.declared.values.index.Index.{Index}
-use Rattle.wb_cells.specs.Cells.{Name, is_same_name, is_same_index, index_cmp, same_names, index_cmp-IsAntisymmetric}
-use Rattle.wb_footprints.specs.declared.part.Kind.{Kind}
-use Rattle.wb_footprints.specs.declared.part.Kind.TheVariants as k
-use Rattle.wb_footprints.specs.declared.part.Part.{Part}
-use Rattle.wb_footprints.specs.declared.part.Part.TheVariants as part
-use Rattle.wb_footprints.specs.declared.place.Place.{Place}
-use Rattle.wb_footprints.specs.declared.place.Place.TheVariants.{Objects, Of}
-use Rattle.wb_footprints.specs.declared.place_marks.PlaceMarks.{PlaceMarks}
+use Rattle.wb_cells.specs.Cells.{is_same_name, is_same_index, index_cmp, same_names, index_cmp-IsAntisymmetric}
+use Rattle.wb_cells.specs.declared.changes.row.RowKind.{RowKind}
+use Rattle.wb_cells.specs.declared.changes.row.RowKind.TheVariants as k
+use Rattle.wb_cells.specs.Runs.{cell_of, name_of_row, kind_of_row}
+use Rattle.wb_cells.specs.declared.changes.row.IndexedRow.{IndexedRow}
+use Rattle.wb_footprints.specs.declared.places.part.Part.{Part}
+use Rattle.wb_footprints.specs.declared.places.part.Part.TheVariants as part
+use Rattle.wb_footprints.specs.declared.places.place.Place.{Place}
+use Rattle.wb_footprints.specs.declared.places.place.Place.TheVariants.{Objects, Of}
+use Rattle.wb_footprints.specs.declared.marks.place_marks.PlaceMarks.{PlaceMarks}
 use Rattle.wb_footprints.specs.Parts.{part_at, is_same_part}
-use Rattle.wb_footprints.specs.Spots.{spot_marked}
-use Rattle.wb_footprints.specs.Places.{own, family, is_same_place, place_marked, cell_at}
-use Rattle.wb_footprints.specs.declared.marking.Marking.{Marking}
-use Rattle.wb_footprints.specs.declared.marking.Marking.TheVariants.{Own, Families}
+use Rattle.wb_footprints.specs.ObjectParts.{object_marked}
+use Rattle.wb_footprints.specs.Places.{own, family, is_same_place, place_marked}
+use Rattle.wb_footprints.specs.declared.places.marking.Marking.{Marking}
+use Rattle.wb_footprints.specs.declared.places.marking.Marking.TheVariants.{Own, Families}
 use Rattle.wb_footprints.specs.Footprints.{family_by, at_cell}
 use Rattle.wb_footprints.proofs.Setting.{either}
 use Rattle.wb_footprints.proofs.RunPlaces.{own_at}
@@ -44,7 +46,7 @@ equal_from Greater e = cc
 same_index : (x y : Index) → is_same_index x y ≡ true → y ≡ x
 same_index x y e = sym (index_cmp-IsAntisymmetric x y (equal_from (index_cmp x y) e))
 
-same_part : (kind : Kind) (p : Index) (x : Part) → is_same_part (part_at kind p) x ≡ true → x ≡ part_at kind p
+same_part : (kind : RowKind) (p : Index) (x : Part) → is_same_part (part_at kind p) x ≡ true → x ≡ part_at kind p
 same_part k.Inside p (part.In j) e = ap part.In (same_index p j e)
 same_part k.Inside p (part.Slot s) e = cc
 same_part k.Inside p (part.Member j) e = cc
@@ -61,16 +63,17 @@ same_part k.Elements p (part.In j) e = cc
 same_part k.Elements p (part.User u) e = cc
 same_part k.Elements p (part.Member j) e = cc
 
-module _ (m : PlaceMarks) (number : ℕ) (kind : Kind) (d : Name) (h : (p : Index) → spot_marked m.spots (d, part_at kind p) number ≡ false) where
-  clear_at : (p : Index) (q : Place) → is_same_place (Of d (part_at kind p)) q ≡ true → place_marked m q number ≡ false
+module _ (m : PlaceMarks) (number : ℕ) (row : IndexedRow)
+    (h : (p : Index) → object_marked m.parts (name_of_row row, part_at (kind_of_row row) p) number ≡ false) where
+  clear_at : (p : Index) (q : Place) → is_same_place (Of (name_of_row row) (part_at (kind_of_row row) p)) q ≡ true → place_marked m q number ≡ false
   clear_at p Objects here = cc
   clear_at p (Of e x) here =
-      let parts = both (is_same_name d e) (is_same_part (part_at kind p) x) here in
-      let name : d ≡ e = same_names d e (equal_from _ parts.0) in
-      rw (← name, same_part kind p x parts.1) (h p)
+      let parts = both (is_same_name (name_of_row row) e) (is_same_part (part_at (kind_of_row row) p) x) here in
+      let name : name_of_row row ≡ e = same_names (name_of_row row) e (equal_from _ parts.0) in
+      rw (← name, same_part (kind_of_row row) p x parts.1) (h p)
 
-  pub place_clear : (p : Index) (q : Place) → is_same_place (own (cell_at kind d p)) q ≡ true → place_marked m q number ≡ false
-  place_clear p q here = clear_at p q (ap (λ o. is_same_place o q) (sym (own_at kind d p)) ∙ here)
+  pub place_clear : (p : Index) (q : Place) → is_same_place (own (cell_of row p)) q ≡ true → place_marked m q number ≡ false
+  place_clear p q here = clear_at p q (ap (λ o. is_same_place o q) (sym (own_at row p)) ∙ here)
 
 -- ---- a row, and what is left to take away of it
 
@@ -83,12 +86,12 @@ one_family Families x y e = e
 
 module _ (m : Place → ℕ → Bool) (number : ℕ) where
   -- from one of its cells it was taken away, and so from their family
-  pub row_gone : (by : Marking) (kind : Kind) (d : Name) (x : Cell) → ((p : Index) → family (cell_at kind d p) ≡ family x) →
-      ((p : Index) (q : Place) → is_same_place (own (cell_at kind d p)) q ≡ true → m q number ≡ false) →
-      ((q : Place) → at_cell by x q ≡ true → m q number ≡ false) → (p : Index) (q : Place) → at_cell by (cell_at kind d p) q ≡ true → m q number ≡ false
-  row_gone by kind d x fam clear gone p q here =
-      let its = is_same_place (own (cell_at kind d p)) q in
-      let other = at_family (family_by by (cell_at kind d p)) q in
-      let same = one_family by (cell_at kind d p) x (fam p) in
+  pub row_gone : (by : Marking) (row : IndexedRow) (x : Cell) → ((p : Index) → family (cell_of row p) ≡ family x) →
+      ((p : Index) (q : Place) → is_same_place (own (cell_of row p)) q ≡ true → m q number ≡ false) →
+      ((q : Place) → at_cell by x q ≡ true → m q number ≡ false) → (p : Index) (q : Place) → at_cell by (cell_of row p) q ≡ true → m q number ≡ false
+  row_gone by row x fam clear gone p q here =
+      let its = is_same_place (own (cell_of row p)) q in
+      let other = at_family (family_by by (cell_of row p)) q in
+      let same = one_family by (cell_of row p) x (fam p) in
       either its other (m q number ≡ false) (clear p q)
       (λ f. gone q (or_last (is_same_place (own x) q) (at_family (family_by by x) q) (ap (λ o. at_family o q) (sym same) ∙ f))) here

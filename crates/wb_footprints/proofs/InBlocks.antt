@@ -17,8 +17,8 @@ use Rattle.std.proofs.lemmas.Bool.Decides.{nat_tests}
 use Rattle.wb_sets.specs.Places.{IsGap}
 use Rattle.wb_sets.proofs.Ascending.{gap_by}
 use Rattle.wb_cells.specs.declared.values.index.Index.{Index}
-use Rattle.wb_footprints.specs.declared.blocks.Block.{Block}
-use Rattle.wb_footprints.specs.declared.numbers.Numbers.{Numbers}
+use Rattle.wb_footprints.specs.declared.marks.blocks.MarkBlock.{MarkBlock}
+use Rattle.wb_footprints.specs.declared.marks.numbers.Numbers.{Numbers}
 use Rattle.wb_footprints.specs.Relation.{Sets, IsLeastAfter}
 use Rattle.wb_footprints.specs.Points.{Coordinates, point_cmp, in_points}
 use Rattle.wb_footprints.specs.Indices.{in_indices}
@@ -179,55 +179,55 @@ beside true false r = refl
 beside false c r = refl
 
 -- a block with other numbers at the same points
-abbrev pub renumbered : Block → Numbers → Block
+abbrev pub renumbered : MarkBlock → Numbers → MarkBlock
 renumbered b new = record { indices = b.indices; numbers = new }
 
 -- a number more at the points of a block
-pub number_more : (xs : List Block) (i number : ℕ) (b : Block) (new : Numbers) → i < length xs → b ≡ get_or xs i b →
+pub number_more : (xs : List MarkBlock) (i number : ℕ) (b : MarkBlock) (new : Numbers) → i < length xs → b ≡ get_or xs i b →
     ((n : ℕ) → numbered new n ≡ (if number == n then true else numbered b.numbers n)) → (p : Index) (n : ℕ) →
     in_blocks (set xs i (renumbered b new)) p n ≡ (if in_indices b.indices p && (number == n) then true else in_blocks xs p n)
 number_more [] i number b new l is more p n = let no : ⊥ = omega arith in absurd no
 number_more (x ∷ xs) zero number b new l is more p n =
     ap (λ v. (in_indices b.indices p && v) || in_blocks xs p n) (more n)
     ∙ raised (in_indices b.indices p) (number == n) (numbered b.numbers n) (in_blocks xs p n)
-    ∙ ap (λ (y : Block). if in_indices b.indices p && (number == n) then true else ((in_indices y.indices p && numbered y.numbers n) || in_blocks xs p n)) is
+    ∙ ap (λ (y : MarkBlock). if in_indices b.indices p && (number == n) then true else ((in_indices y.indices p && numbered y.numbers n) || in_blocks xs p n)) is
 number_more (x ∷ xs) (suc i) number b new l is more p n =
     ap (λ r. (in_indices x.indices p && numbered x.numbers n) || r) (number_more xs i number b new (omega arith) is more p n)
     ∙ beside (in_indices x.indices p && numbered x.numbers n) (in_indices b.indices p && (number == n)) (in_blocks xs p n)
 
-pub number_set : (xs : List Block) (i number : ℕ) (b : Block) (new : Numbers) → i < length xs → b ≡ get_or xs i b →
-    ((n : ℕ) → numbered new n ≡ (if number == n then true else numbered b.numbers n)) → (ps : List Index) → ((d : Block) → (get_or xs i d).indices ≡ ps) →
+pub number_set : (xs : List MarkBlock) (i number : ℕ) (b : MarkBlock) (new : Numbers) → i < length xs → b ≡ get_or xs i b →
+    ((n : ℕ) → numbered new n ≡ (if number == n then true else numbered b.numbers n)) → (ps : List Index) → ((d : MarkBlock) → (get_or xs i d).indices ≡ ps) →
     Sets (in_blocks xs) (in_blocks (set xs i (renumbered b new))) (λ p. in_indices ps p) number true
 number_set xs i number b new l is more ps h = record {
   at = λ p n.
       number_more xs i number b new l is more p n
-      ∙ ap (λ qs. if in_indices qs p && (number == n) then true else in_blocks xs p n) (ap (λ (y : Block). y.indices) is ∙ h b);
+      ∙ ap (λ qs. if in_indices qs p && (number == n) then true else in_blocks xs p n) (ap (λ (y : MarkBlock). y.indices) is ∙ h b);
 }
 
 -- the same numbers again
-pub number_same : (xs : List Block) (i number : ℕ) (b : Block) (new : Numbers) → i < length xs → b ≡ get_or xs i b → new ≡ b.numbers → (here : Index → Bool) →
+pub number_same : (xs : List MarkBlock) (i number : ℕ) (b : MarkBlock) (new : Numbers) → i < length xs → b ≡ get_or xs i b → new ≡ b.numbers → (here : Index → Bool) →
     Sets (in_blocks xs) (in_blocks (set xs i (renumbered b new))) (λ p. false && here p) number true
 number_same xs i number b new l is same here = record {
   at = λ p n.
-      set_any (λ (y : Block). in_indices y.indices p && numbered y.numbers n) xs i (renumbered b new) b l
-      (ap (λ ns. in_indices b.indices p && numbered ns n) same ∙ ap (λ (y : Block). in_indices y.indices p && numbered y.numbers n) is);
+      set_any (λ (y : MarkBlock). in_indices y.indices p && numbered y.numbers n) xs i (renumbered b new) b l
+      (ap (λ ns. in_indices b.indices p && numbered ns n) same ∙ ap (λ (y : MarkBlock). in_indices y.indices p && numbered y.numbers n) is);
 }
 
 -- the other numbers, where one is taken away from a block
-pub number_less : (xs : List Block) (i number : ℕ) (b : Block) (new : Numbers) → i < length xs → b ≡ get_or xs i b →
+pub number_less : (xs : List MarkBlock) (i number : ℕ) (b : MarkBlock) (new : Numbers) → i < length xs → b ≡ get_or xs i b →
     ((n : ℕ) → numbered new n ≡ (if number == n then false else numbered b.numbers n)) → (p : Index) (n : ℕ) → (number == n) ≡ false →
     in_blocks (set xs i (renumbered b new)) p n ≡ in_blocks xs p n
-number_less xs i number b new l is less p n other = set_any (λ (y : Block). in_indices y.indices p && numbered y.numbers n) xs i (renumbered b new) b l
+number_less xs i number b new l is less p n other = set_any (λ (y : MarkBlock). in_indices y.indices p && numbered y.numbers n) xs i (renumbered b new) b l
     (ap (λ v. in_indices b.indices p && v) (less n ∙ ap (λ c. if c then false else numbered b.numbers n) other)
-    ∙ ap (λ (y : Block). in_indices y.indices p && numbered y.numbers n) is)
+    ∙ ap (λ (y : MarkBlock). in_indices y.indices p && numbered y.numbers n) is)
 
 -- a block without numbers
-pub bare_gone : (xs ys : List Block) (i : ℕ) (b : Block) → i < length xs → ((n : ℕ) → numbered (get_or xs i b).numbers n ≡ false) → ys ≡ take i xs ++ drop (i + 1) xs →
+pub bare_gone : (xs ys : List MarkBlock) (i : ℕ) (b : MarkBlock) → i < length xs → ((n : ℕ) → numbered (get_or xs i b).numbers n ≡ false) → ys ≡ take i xs ++ drop (i + 1) xs →
     (p : Index) (n : ℕ) → in_blocks ys p n ≡ in_blocks xs p n
-bare_gone xs ys i b l none e p n = rw e (removed_any (λ (y : Block). in_indices y.indices p && numbered y.numbers n) xs i b l
+bare_gone xs ys i b l none e p n = rw e (removed_any (λ (y : MarkBlock). in_indices y.indices p && numbered y.numbers n) xs i b l
     (and_out (in_indices (get_or xs i b).indices p) _ (none n)))
 
-pub cleared : (old new : List Block) (number : ℕ) → ((p : Index) (n : ℕ) → (number == n) ≡ false → in_blocks new p n ≡ in_blocks old p n) →
+pub cleared : (old new : List MarkBlock) (number : ℕ) → ((p : Index) (n : ℕ) → (number == n) ≡ false → in_blocks new p n ≡ in_blocks old p n) →
     ((p : Index) → in_blocks new p number ≡ false) → Sets (in_blocks old) (in_blocks new) (λ p. true) number false
 cleared old new number others gone = record { at = λ p n. by p n (number == n) refl }
   where
@@ -235,7 +235,7 @@ cleared old new number others gone = record { at = λ p n. by p n (number == n) 
     by p n true e = subst (λ (k : ℕ). in_blocks new p k ≡ false) (number_is number n e) (gone p)
     by p n false e = others p n e
 
-pub least_more : (xs : List Block) (i after : ℕ) (d : Block) → i < length xs → (x : Block) → x ≡ get_or xs i d → (p : Index) (r : Option ℕ) →
+pub least_more : (xs : List MarkBlock) (i after : ℕ) (d : MarkBlock) → i < length xs → (x : MarkBlock) → x ≡ get_or xs i d → (p : Index) (r : Option ℕ) →
     IsLeastAfter (λ n. in_blocks (take i xs) p n || (in_indices x.indices p && numbered x.numbers n)) after r → IsLeastAfter (in_blocks (take (i + 1) xs) p) after r
 least_more xs i after d l x e p r h = least_like (λ n. in_blocks (take i xs) p n || (in_indices x.indices p && numbered x.numbers n)) (in_blocks (take (i + 1) xs) p)
     after r (λ n. rw e (list_any_more (λ b. in_indices b.indices p && numbered b.numbers n) xs i d l)) h

@@ -10,7 +10,7 @@ use Rattle.std.specs.declared.cmp.Ordering.{Ordering}
 use Rattle.std.specs.declared.cmp.Ordering.TheVariants.{Less, Equal, Greater}
 use Rattle.std.proofs.lemmas.Bool.Decides.{nat_tests}
 use Rattle.std.proofs.lemmas.Cmp.{ranked}
-use Rattle.wb_footprints.specs.declared.blocks.Blocks.{Blocks}
+use Rattle.wb_footprints.specs.declared.marks.blocks.Blocks.{Blocks}
 use Rattle.wb_cells.specs.declared.values.index.Index.{Index}
 use Rattle.wb_footprints.specs.Relation.{Sets}
 use Rattle.wb_footprints.specs.Blocks.{in_blocks}

@@ -8,7 +8,7 @@ use Rattle.std.proofs.lemmas.List.Elements.{All-head, All-tail, All-push, All-we
 use Rattle.std.proofs.lemmas.Bool.{and_parts}
 use Rattle.std.proofs.lemmas.Bool.Decides.{nat_tests}
 use Rattle.wb_sets.specs.Labels.{IsLabel}
-use Rattle.wb_footprints.specs.declared.label_list.LabelPlace.{LabelPlace}
+use Rattle.wb_footprints.specs.declared.places.label_list.LabelPlace.{LabelPlace}
 use Rattle.wb_footprints.specs.Listed.{label_in, labels_in, IsKept}
 use Rattle.wb_footprints.proofs.InBlocks.{number_is}
 

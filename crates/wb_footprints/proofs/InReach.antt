@@ -14,9 +14,9 @@ use Rattle.std.proofs.lemmas.Bool.Decides.{nat_tests}
 use Rattle.std.proofs.lemmas.Cmp.{ranked, nat_cmp_total}
 use Rattle.std.proofs.lemmas.List.Folds.{Any-from_list_any}
 use Rattle.std.proofs.lemmas.Map.Views.{range_contains-from_IsInRange}
-use Rattle.wb_footprints.specs.declared.blocks.Blocks.{Blocks}
-use Rattle.wb_footprints.specs.declared.marks.Marks.{Marks}
-use Rattle.wb_footprints.specs.declared.numbers.Numbers.{Numbers}
+use Rattle.wb_footprints.specs.declared.marks.blocks.Blocks.{Blocks}
+use Rattle.wb_footprints.specs.declared.marks.key_marks.Marks.{Marks}
+use Rattle.wb_footprints.specs.declared.marks.numbers.Numbers.{Numbers}
 use Rattle.wb_footprints.specs.Blocks.{in_blocks}
 use Rattle.wb_footprints.specs.Groups.{in_groups, is_kept, is_apart, AreAll}
 use Rattle.wb_footprints.specs.Keys.{index_key}

@@ -4,8 +4,8 @@ use Rattle.std.proofs.Common.{List, [], ◌∷◌, ◌++◌, length, take, set, 
 use Rattle.std.specs.List.{list_any}
 use Rattle.std.proofs.lemmas.List.{nil_from_length}
 use Rattle.std.proofs.lemmas.List.Folds.{list_any-append}
-use Rattle.wb_footprints.specs.declared.numbers.Numbers.{Numbers}
-use Rattle.wb_footprints.specs.declared.reach_marks.ReachMarks.{ReachMarks}
+use Rattle.wb_footprints.specs.declared.marks.numbers.Numbers.{Numbers}
+use Rattle.wb_footprints.specs.declared.marks.reach_marks.ReachMarks.{ReachMarks}
 use Rattle.wb_footprints.specs.Groups.{in_groups}
 use Rattle.wb_cells.specs.declared.values.index.Index.{Index}
 use Rattle.wb_footprints.specs.Reaches.{in_reaches}

@@ -5,7 +5,7 @@ use Rattle.std.specs.List.{list_any}
 use Rattle.std.specs.Ordering.{nat_cmp}
 use Rattle.wb_cells.specs.declared.values.index.Index.{Index}
 use Rattle.wb_cells.specs.declared.values.index.Index.TheVariants as i
-use Rattle.wb_footprints.specs.declared.index_marks.IndexMarks.{IndexMarks}
+use Rattle.wb_footprints.specs.declared.marks.index_marks.IndexMarks.{IndexMarks}
 use Rattle.wb_footprints.specs.Relation.{Sets}
 use Rattle.wb_footprints.specs.Marks.{marked}
 use Rattle.wb_footprints.specs.PointMarks.{point_marked}

@@ -19,14 +19,14 @@ use Rattle.std.specs.Cmp.{IsTotalOrder}
 use Rattle.std.specs.Cmp.Lexicographic.{nat_list_cmp_total}
 use Rattle.wb_cells.specs.Cells.{index_cmp}
 use Rattle.wb_cells.specs.contracts.values.index.IndexOrd.TheImpl.Laws as index_laws
-use Rattle.wb_footprints.specs.contracts.part.SlotOrd.TheImpl.Laws as slot_laws
-use Rattle.wb_footprints.specs.declared.part.Part.{Part}
-use Rattle.wb_footprints.specs.declared.part.Part.TheVariants as part
-use Rattle.wb_footprints.specs.declared.place.Place.{Place}
-use Rattle.wb_footprints.specs.declared.place.Place.TheVariants.{Objects, Of}
+use Rattle.wb_footprints.specs.contracts.places.part.SlotOrd.TheImpl.Laws as slot_laws
+use Rattle.wb_footprints.specs.declared.places.part.Part.{Part}
+use Rattle.wb_footprints.specs.declared.places.part.Part.TheVariants as part
+use Rattle.wb_footprints.specs.declared.places.place.Place.{Place}
+use Rattle.wb_footprints.specs.declared.places.place.Place.TheVariants.{Objects, Of}
 use Rattle.wb_footprints.specs.declared.foot_index.FootIndex.{FootIndex}
 use Rattle.wb_footprints.specs.Relation.{IsLeastAfter}
-use Rattle.wb_footprints.specs.declared.marking.Marking.TheVariants.{Families}
+use Rattle.wb_footprints.specs.declared.places.marking.Marking.TheVariants.{Families}
 use Rattle.wb_footprints.specs.Parts.{is_same_part}
 use Rattle.wb_footprints.specs.Slots.{slot_cmp}
 use Rattle.wb_footprints.specs.Places.{place_marked}

@@ -6,17 +6,17 @@ use Rattle.std.specs.Ordering.{nat_cmp, is_eq}
 use Rattle.std.specs.declared.cmp.Ordering.{Ordering}
 use Rattle.std.specs.declared.cmp.Ordering.TheVariants.{Less, Equal, Greater}
 use Rattle.wb_cells.specs.Cells.{Name, is_same_name, same_names}
-use Rattle.wb_footprints.specs.declared.name_marks.NameMarks.{NameMarks}
-use Rattle.wb_footprints.specs.declared.part.Part.{Part}
+use Rattle.wb_footprints.specs.declared.marks.name_marks.NameMarks.{NameMarks}
+use Rattle.wb_footprints.specs.declared.places.part.Part.{Part}
 use Rattle.wb_footprints.specs.Relation.{Sets, Clears}
-use Rattle.wb_footprints.specs.Parts.{Spot, is_same_part, part_marked}
-use Rattle.wb_footprints.specs.Spots.{at_name, is_same_spot}
+use Rattle.wb_footprints.specs.Parts.{ObjectPart, is_same_part, part_marked}
+use Rattle.wb_footprints.specs.ObjectParts.{at_name, is_same_object_part}
 use Rattle.wb_footprints.proofs.Setting.{like}
 
 abbrev pub Names : Type 0
 Names = BTreeMap Name NameMarks
 
-abbrev pub in_names : Names → Spot → ℕ → Bool
+abbrev pub in_names : Names → ObjectPart → ℕ → Bool
 in_names m s n = at_name (get (slice_cmp nat_cmp) m s.0) s.1 n
 
 abbrev name_cmp : Name → Name → Ordering
@@ -57,14 +57,14 @@ module _ (m n : Names) (d : Name) (x : Option NameMarks) (y : NameMarks) (was : 
   }
 
   pub part_set : (p : Part) (number : ℕ) (b : Bool) → Sets (at_name x) (part_marked y) (is_same_part p) number b →
-      Sets (in_names m) (in_names n) (is_same_spot (d, p)) number b
+      Sets (in_names m) (in_names n) (is_same_object_part (d, p)) number b
   part_set p = parts_set (is_same_part p)
 
-  found_as : (s : Spot) (k : ℕ) → name_cmp d s.0 ≡ Equal → at_name (get name_cmp m s.0) s.1 k ≡ at_name x s.1 k
+  found_as : (s : ObjectPart) (k : ℕ) → name_cmp d s.0 ≡ Equal → at_name (get name_cmp m s.0) s.1 k ≡ at_name x s.1 k
   found_as s k tie = ap (λ o. at_name o s.1 k) (ap (get name_cmp m) (sym (same_names d s.0 tie)) ∙ was)
 
   pub part_cleared : (p : Part) (number : ℕ) → Clears (at_name x) (part_marked y) (is_same_part p) number →
-      Clears (in_names m) (in_names n) (is_same_spot (d, p)) number
+      Clears (in_names m) (in_names n) (is_same_object_part (d, p)) number
   part_cleared p number h = record {
     gone = λ s here. rw (is.0 s.0) (gone_tie (name_cmp d s.0) (get name_cmp m s.0) y s.1 number (is_same_part p s.1) here (h.gone s.1));
     fewer = λ s out. rw (is.0 s.0) (fewer_tie (name_cmp d s.0) (get name_cmp m s.0) y s.1 number (at_name x s.1 number) (found_as s number) out (h.fewer s.1));
@@ -77,7 +77,7 @@ module _ (m n : Names) (d : Name) (x : Option NameMarks) (y : NameMarks) (was : 
   same_tie Greater found s k h = refl
   same_tie Equal found s k h = rw (h refl)
 
-  pub part_same : x ≡ Some y → (s : Spot) (k : ℕ) → in_names n s k ≡ in_names m s k
+  pub part_same : x ≡ Some y → (s : ObjectPart) (k : ℕ) → in_names n s k ≡ in_names m s k
   part_same e s k = rw (is.0 s.0) (same_tie (name_cmp d s.0) (get name_cmp m s.0) s.1 k (λ tie. ap (get name_cmp m) (sym (same_names d s.0 tie)) ∙ was ∙ e))
 
 -- nothing is to be taken away at a name without marks
@@ -88,7 +88,7 @@ nothing Greater found s k part h e = cc
 nothing Equal found s k part h e = rw (h refl) refl
 
 pub none_cleared : (m n : Names) (d : Name) (p : Part) (number : ℕ) → n ≡ m → get name_cmp m d ≡ None →
-    Clears (in_names m) (in_names n) (is_same_spot (d, p)) number
+    Clears (in_names m) (in_names n) (is_same_object_part (d, p)) number
 none_cleared m n d p number same was = rw same (record {
   gone = λ s here. nothing (name_cmp d s.0) (get name_cmp m s.0) s.1 number (is_same_part p s.1)
       (λ tie. ap (get name_cmp m) (sym (same_names d s.0 tie)) ∙ was) here;
@@ -106,7 +106,7 @@ parts_new m l n d fresh y same was is none here number h =
 
 pub part_new : (m l n : Names) (d : Name) (fresh y : NameMarks) → l ≡ m → get name_cmp m d ≡ None → Updates name_cmp l n d (Some y) →
     ((p : Part) (k : ℕ) → part_marked fresh p k ≡ false) → (p : Part) (number : ℕ) → Sets (part_marked fresh) (part_marked y) (is_same_part p) number true →
-    Sets (in_names m) (in_names n) (is_same_spot (d, p)) number true
+    Sets (in_names m) (in_names n) (is_same_object_part (d, p)) number true
 part_new m l n d fresh y same was is none p = parts_new m l n d fresh y same was is none (is_same_part p)
 
 swapped : (done a b : Bool) → (a && (done && b)) ≡ (done && (a && b))

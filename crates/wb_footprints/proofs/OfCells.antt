@@ -3,10 +3,10 @@ use Rattle.std.proofs.Common.{◌≡◌, ℕ, Bool, true, ◌||◌, ◌==◌, So
 use Rattle.wb_cells.specs.declared.cells.cell.Cell.{Cell}
 use Rattle.wb_cells.specs.declared.cells.pattern.Pattern.{Pattern}
 use Rattle.wb_cells.specs.Cells.{Changes}
-use Rattle.wb_footprints.specs.declared.place.Place.{Place}
+use Rattle.wb_footprints.specs.declared.places.place.Place.{Place}
 use Rattle.wb_footprints.specs.Relation.{Sets, Stays, Clears}
 use Rattle.wb_footprints.specs.Places.{own, place_of, is_same_place}
-use Rattle.wb_footprints.specs.declared.marking.Marking.{Marking}
+use Rattle.wb_footprints.specs.declared.places.marking.Marking.{Marking}
 use Rattle.wb_footprints.specs.Footprints.{family_by, at_cell, marked_at, read_at}
 use Rattle.wb_footprints.proofs.Setting.{then_sets, like, more_any, then_stays, stays_none, any_out, then_clears, clears_like}
 

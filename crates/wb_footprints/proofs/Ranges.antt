@@ -12,7 +12,7 @@ use Rattle.std.specs.declared.cmp.Ordering.TheVariants.{Less, Equal, Greater}
 use Rattle.std.specs.declared.ops.Bound.TheVariants.{Excluded, Unbounded}
 use Rattle.std.proofs.lemmas.Cmp.{ranked, tied_itself, tied_back, then_total, on_total, eq_by_cmp_equiv, nat_cmp_total}
 use Rattle.std.proofs.lemmas.Map.Steps.{list_any_congr}
-use Rattle.wb_footprints.specs.declared.marks.Marks.{Marks}
+use Rattle.wb_footprints.specs.declared.marks.key_marks.Marks.{Marks}
 use Rattle.wb_footprints.specs.Relation.{Sets, IsLeastAfter}
 use Rattle.wb_footprints.specs.Marks.{pair_cmp, marked}
 

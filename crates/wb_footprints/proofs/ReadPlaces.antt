@@ -5,8 +5,8 @@ use Rattle.wb_cells.specs.declared.cells.pattern.Pattern.{Pattern}
 use Rattle.wb_cells.specs.declared.cells.pattern.Pattern.TheVariants.{One}
 use Rattle.wb_cells.specs.Cells.{Changes}
 use Rattle.wb_cells.specs.Reads.{patterns_of}
-use Rattle.wb_footprints.specs.declared.marking.Marking.TheVariants.{Own}
-use Rattle.wb_footprints.specs.declared.place.Place.{Place}
+use Rattle.wb_footprints.specs.declared.places.marking.Marking.TheVariants.{Own}
+use Rattle.wb_footprints.specs.declared.places.place.Place.{Place}
 use Rattle.wb_footprints.specs.Relation.{Clears, Stays}
 use Rattle.wb_footprints.specs.Places.{own, place_of, is_same_place}
 use Rattle.wb_footprints.specs.Footprints.{marked_at, read_at}

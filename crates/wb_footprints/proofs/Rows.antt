@@ -7,17 +7,16 @@ use Rattle.std.proofs.lemmas.List.Folds.{list_any-append}
 use Rattle.selective_undo.specs.declared.Change.{Change}
 use Rattle.wb_cells.specs.declared.cells.cell.Cell.{Cell}
 use Rattle.wb_cells.specs.declared.cells.value.Value.{Value}
-use Rattle.wb_cells.specs.declared.changes.row.Row.{Row}
+use Rattle.wb_cells.specs.declared.changes.row.IndexedRow.{IndexedRow}
+use Rattle.wb_cells.specs.declared.changes.row.IndexedRow.TheVariants.{Inside, Members, Elements}
 use Rattle.wb_cells.specs.declared.values.index.Index.TheVariants.{Point, Text}
-use Rattle.wb_cells.specs.Cells.{Name, Changes}
+use Rattle.wb_cells.specs.Cells.{Changes}
 use Rattle.wb_cells.specs.Runs.{cell_of, packed_changes, labelled_changes, in_first}
-use Rattle.wb_footprints.specs.declared.marking.Marking.{Marking}
-use Rattle.wb_footprints.specs.declared.part.Kind.{Kind}
-use Rattle.wb_footprints.specs.declared.part.Kind.TheVariants as k
-use Rattle.wb_footprints.specs.declared.place.Place.{Place}
+use Rattle.wb_footprints.specs.declared.places.marking.Marking.{Marking}
+use Rattle.wb_footprints.specs.declared.places.place.Place.{Place}
 use Rattle.wb_footprints.specs.Relation.{Clears}
 use Rattle.wb_cells.specs.declared.values.index.Index.{Index}
-use Rattle.wb_footprints.specs.Places.{family, cell_at}
+use Rattle.wb_footprints.specs.Places.{family}
 use Rattle.wb_footprints.specs.Footprints.{at_cell, marked_at, cells_of, run_cells}
 use Rattle.wb_footprints.specs.Rows.{AreOfRow, AreAt}
 use Rattle.wb_footprints.proofs.Meeting.{any_map}
@@ -27,23 +26,21 @@ use Rattle.wb_footprints.proofs.RunPlaces.{any_cell}
 
 -- ---- which cells they are
 
-pub packed_cells : (row : Row) (kind : Kind) (name : Name) → ((x : Index) → cell_at kind name x ≡ cell_of row x) →
-    (es : List (List ℤ × Option ℤ)) → cells_of (packed_changes row es) ≡ run_cells kind name (map Point (map (λ e. e.0) es))
-packed_cells row kind name h [] = refl
-packed_cells row kind name h (e ∷ es) =
-    ap (λ c. c ∷ cells_of (packed_changes row es)) (sym (h (Point e.0))) ∙ ap (λ cs. cell_at kind name (Point e.0) ∷ cs) (packed_cells row kind name h es)
+pub packed_cells : (row : IndexedRow) (es : List (List ℤ × Option ℤ)) →
+    cells_of (packed_changes row es) ≡ run_cells row (map Point (map (λ e. e.0) es))
+packed_cells row [] = refl
+packed_cells row (e ∷ es) = ap (λ cs. cell_of row (Point e.0) ∷ cs) (packed_cells row es)
 
-pub labelled_cells : (row : Row) (kind : Kind) (name : Name) → ((x : Index) → cell_at kind name x ≡ cell_of row x) →
-    (es : List (List ℕ × Option ℤ)) → cells_of (labelled_changes row es) ≡ run_cells kind name (map Text (map (λ e. e.0) es))
-labelled_cells row kind name h [] = refl
-labelled_cells row kind name h (e ∷ es) =
-    ap (λ c. c ∷ cells_of (labelled_changes row es)) (sym (h (Text e.0))) ∙ ap (λ cs. cell_at kind name (Text e.0) ∷ cs) (labelled_cells row kind name h es)
+pub labelled_cells : (row : IndexedRow) (es : List (List ℕ × Option ℤ)) →
+    cells_of (labelled_changes row es) ≡ run_cells row (map Text (map (λ e. e.0) es))
+labelled_cells row [] = refl
+labelled_cells row (e ∷ es) = ap (λ cs. cell_of row (Text e.0) ∷ cs) (labelled_cells row es)
 
 -- where cells are at some indices, and a test finds one of these where it finds one of others, the cells are at the others
-pub cells_at : {X : Type 0} (xs : Changes) (kind : Kind) (name : Name) (make : X → Index) (from to : List X) → cells_of xs ≡ run_cells kind name (map make from) →
-    ((f : X → Bool) → list_any f to ≡ list_any f from) → AreAt kind name (map make to) xs
-cells_at xs kind name make from to is alike = λ f.
-    let at = cell_at kind name in
+pub cells_at : {X : Type 0} (xs : Changes) (row : IndexedRow) (make : X → Index) (from to : List X) → cells_of xs ≡ run_cells row (map make from) →
+    ((f : X → Bool) → list_any f to ≡ list_any f from) → AreAt row (map make to) xs
+cells_at xs row make from to is alike = λ f.
+    let at = cell_of row in
     ap (list_any f) is
     ∙ any_map f at (map make from)
     ∙ any_map (λ x. f (at x)) make from
@@ -57,25 +54,25 @@ firsts_of_rectangle n (p ∷ ps) = ap (λ qs. p ∷ qs) (firsts_of_rectangle n p
 
 -- ---- taking a number away
 
-one_family : (kind : Kind) (d : Name) (p q : Index) → family (cell_at kind d p) ≡ family (cell_at kind d q)
-one_family k.Inside d p q = refl
-one_family k.Members d p q = refl
-one_family k.Elements d p q = refl
+one_family : (row : IndexedRow) (p q : Index) → family (cell_of row p) ≡ family (cell_of row q)
+one_family (Inside d) p q = refl
+one_family (Members d) p q = refl
+one_family (Elements d) p q = refl
 
-first_in : (kind : Kind) (d : Name) (xs : Changes) (ps : List Index) (y : Change Cell Value) → cells_of xs ≡ run_cells kind d ps → 0 < length xs →
-    (p : Index) → family (cell_at kind d p) ≡ family (get_or xs 0 y).cell
-first_in kind d [] ps y e some p = absurd (omega arith)
-first_in kind d (x ∷ xs) [] y e some p = cc
-first_in kind d (x ∷ xs) (q ∷ ps) y e some p =
-    let same : x.cell ≡ cell_at kind d q = cc in
-    one_family kind d p q ∙ ap family (sym same)
+first_in : (row : IndexedRow) (xs : Changes) (ps : List Index) (y : Change Cell Value) → cells_of xs ≡ run_cells row ps → 0 < length xs →
+    (p : Index) → family (cell_of row p) ≡ family (get_or xs 0 y).cell
+first_in row [] ps y e some p = absurd (omega arith)
+first_in row (x ∷ xs) [] y e some p = cc
+first_in row (x ∷ xs) (q ∷ ps) y e some p =
+    let same : x.cell ≡ cell_of row q = cc in
+    one_family row p q ∙ ap family (sym same)
 
 -- the family of the first is that of all
-pub first_family : (kind : Kind) (d : Name) (xs : Changes) → AreOfRow kind d xs → (x : Cell) → ((y : Change Cell Value) → x ≡ (get_or xs 0 y).cell) →
-    0 < length xs → (p : Index) → family (cell_at kind d p) ≡ family x
-first_family kind d xs h x e some p =
+pub first_family : (row : IndexedRow) (xs : Changes) → AreOfRow row xs → (x : Cell) → ((y : Change Cell Value) → x ≡ (get_or xs 0 y).cell) →
+    0 < length xs → (p : Index) → family (cell_of row p) ≡ family x
+first_family row xs h x e some p =
     let y : Change Cell Value = record { cell = x; value = None } in
-    first_in kind d xs h.0 y h.1 some p ∙ ap family (sym (e y))
+    first_in row xs h.0 y h.1 some p ∙ ap family (sym (e y))
 
 any_gone : {X : Type 0} (f : X → Bool) (P : Type 0) → ((x : X) → f x ≡ true → P) → (xs : List X) → list_any f xs ≡ true → P
 any_gone f P h [] e = cc
@@ -83,11 +80,11 @@ any_gone f P h (x ∷ xs) e = either (f x) (list_any f xs) P (h x) (any_gone f P
 
 module _ (o n : Place → ℕ → Bool) (number : ℕ) where
   -- a number that stands at no cell of the row any more
-  pub row_cleared : (by : Marking) (kind : Kind) (d : Name) (xs : Changes) (x : Cell) → AreOfRow kind d xs → Clears o n (at_cell by x) number →
-      ((p : Index) (q : Place) → at_cell by (cell_at kind d p) q ≡ true → n q number ≡ false) → Clears o n (marked_at by xs) number
-  row_cleared by kind d xs x h g clear = record {
-    gone = λ q here. any_gone (λ p. at_cell by (cell_at kind d p) q) (n q number ≡ false) (λ p. clear p q) h.0
-        (sym (any_cell (λ c. at_cell by c q) xs kind d h.0 (λ f. ap (list_any f) h.1)) ∙ here);
+  pub row_cleared : (by : Marking) (row : IndexedRow) (xs : Changes) (x : Cell) → AreOfRow row xs → Clears o n (at_cell by x) number →
+      ((p : Index) (q : Place) → at_cell by (cell_of row p) q ≡ true → n q number ≡ false) → Clears o n (marked_at by xs) number
+  row_cleared by row xs x h g clear = record {
+    gone = λ q here. any_gone (λ p. at_cell by (cell_of row p) q) (n q number ≡ false) (λ p. clear p q) h.0
+        (sym (any_cell (λ c. at_cell by c q) xs row h.0 (λ f. ap (list_any f) h.1)) ∙ here);
     fewer = g.fewer;
     others = g.others;
   }

@@ -3,7 +3,7 @@ use Rattle.std.proofs.Common.{◌≡◌, ℕ, ℤ, false, [], ◌∷◌, Some, N
 use Rattle.std.specs.Ordering.{int_cmp, nat_cmp, ordering_then}
 use Rattle.std.specs.declared.cmp.Ordering.{Ordering}
 use Rattle.std.specs.declared.cmp.Ordering.TheVariants.{Less, Equal, Greater}
-use Rattle.wb_footprints.specs.declared.marks.Marks.{Marks}
+use Rattle.wb_footprints.specs.declared.marks.key_marks.Marks.{Marks}
 use Rattle.wb_footprints.specs.Marks.{pair_cmp, marked}
 use Rattle.wb_footprints.specs.Points.{Coordinates, point_cmp}
 use Rattle.wb_footprints.specs.PointMarks.{single_of, at_single}

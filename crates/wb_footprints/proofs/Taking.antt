@@ -3,7 +3,7 @@ use Rattle.std.proofs.Common.{◌≡◌, ℕ, Bool, true, false, ◌&&◌, ◌==
 use Rattle.std.proofs.lemmas.Bool.Decides.{nat_tests}
 use Rattle.selective_undo.specs.Log.{Footprint}
 use Rattle.wb_cells.specs.Schema.{workbook}
-use Rattle.wb_footprints.specs.declared.place.Place.{Place}
+use Rattle.wb_footprints.specs.declared.places.place.Place.{Place}
 use Rattle.wb_footprints.specs.Relation.{Sets, Stays, Clears}
 use Rattle.wb_footprints.specs.Footprints.{with_footprint}
 

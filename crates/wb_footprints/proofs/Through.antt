@@ -7,17 +7,17 @@ use Rattle.std.specs.Global.{Vec}
 use Rattle.std.specs.Ordering.{eq_by_cmp}
 use Rattle.std.specs.Cmp.{Equal-is}
 use Rattle.wb_cells.specs.declared.cells.cell.Cell.{Cell}
-use Rattle.wb_cells.specs.Cells.{Name, cell_cmp, cell_order}
+use Rattle.wb_cells.specs.Cells.{cell_cmp, cell_order}
+use Rattle.wb_cells.specs.Runs.{cell_of}
+use Rattle.wb_cells.specs.declared.changes.row.IndexedRow.{IndexedRow}
 use Rattle.wb_footprints.specs.declared.foot_index.FootIndex.{FootIndex}
-use Rattle.wb_footprints.specs.declared.marks.Marks.{Marks}
-use Rattle.wb_footprints.specs.declared.numbers.Numbers.{Numbers}
-use Rattle.wb_footprints.specs.declared.part.Kind.{Kind}
-use Rattle.wb_footprints.specs.declared.runs.Run.{Run}
-use Rattle.wb_footprints.specs.declared.swept.SweptCells.{SweptCells}
+use Rattle.wb_footprints.specs.declared.marks.key_marks.Marks.{Marks}
+use Rattle.wb_footprints.specs.declared.marks.numbers.Numbers.{Numbers}
+use Rattle.wb_footprints.specs.declared.places.runs.Run.{Run}
+use Rattle.wb_footprints.specs.declared.questions.swept.SweptCells.{SweptCells}
 use Rattle.wb_footprints.specs.Numbers.{numbered}
 use Rattle.wb_footprints.specs.Marks.{marked}
 use Rattle.wb_cells.specs.declared.values.index.Index.{Index}
-use Rattle.wb_footprints.specs.Places.{cell_at}
 use Rattle.wb_footprints.specs.Footprints.{marked_own, marked_family}
 use Rattle.wb_footprints.specs.Relation.{Sets, JoinedAfter}
 use Rattle.wb_footprints.specs.Swept.{AreSwept, AreWaiting, FailsBehind, IsGone}
@@ -91,18 +91,18 @@ asked_more m s t w v after c h joined sets same runs = record {
 -- ---- runs kept whole
 
 -- runs are one where their cells are of one row and at the same indices
-pub same_run : (a b : Run) → a.row.name ≡ b.row.name → a.row.kind ≡ b.row.kind → a.indices ≡ b.indices → a ≡ b
-same_run a b name kind indices = λ i. record { row = record { name = name i; kind = kind i }; indices = indices i }
+pub same_run : (a b : Run) → a.row ≡ b.row → a.indices ≡ b.indices → a ≡ b
+same_run a b row indices = λ i. record { row = row i; indices = indices i }
 
 pub point_there : (f : Index → Bool) (ps : List Index) (p : Index) → Contains ps p → f p ≡ true → list_any f ps ≡ true
 point_there f ps p h e = list_any_at f ps h.0 p h.1 (ap f h.2 ∙ e)
 
 -- those at the cells of a run that is kept wait
 pub run_waits : (m : FootIndex) (s : SweptCells) (w : Numbers) (after : ℕ) (run : Run) → AreSwept m s w after → Contains s.runs.items run →
-    AreWaiting m run.row.kind run.row.name run.indices w after
+    AreWaiting m run.row run.indices w after
 run_waits m s w after run h kept n up met =
-    let one = Any-from_list_any (λ p. marked_own m (cell_at run.row.kind run.row.name p) n) run.indices met in
-    h.cells (cell_at run.row.kind run.row.name one.1) 0 n (inr (run, kept, (one.1, (one.0, one.2, one.3), refl))) up one.4
+    let one = Any-from_list_any (λ p. marked_own m (cell_of run.row p) n) run.indices met in
+    h.cells (cell_of run.row one.1) 0 n (inr (run, kept, (one.1, (one.0, one.2, one.3), refl))) up one.4
 
 in_behind : {X : Type 0} (xs : List X) (y x : X) → Contains (xs ++ y ∷ []) x → Contains xs x ⊎ (x ≡ y)
 in_behind [] y x (zero, l, e) = inr (sym e)
@@ -115,7 +115,7 @@ in_behind (z ∷ zs) y x (suc k, l, e) = elim (in_behind zs y x (k, omega (arith
 
 -- one run more of which all wait
 pub kept_more : (m : FootIndex) (s t : SweptCells) (w : Numbers) (after : ℕ) (run : Run) → AreSwept m s w after →
-    AreWaiting m run.row.kind run.row.name run.indices w after → t.cells ≡ s.cells → t.families ≡ s.families → t.runs.items ≡ s.runs.items ++ run ∷ [] →
+    AreWaiting m run.row run.indices w after → t.cells ≡ s.cells → t.families ≡ s.families → t.runs.items ≡ s.runs.items ++ run ∷ [] →
     AreSwept m t w after
 kept_more m s t w after run h waits cells families runs = record {
   cells = λ c k n is up met. by c k n up met is;
@@ -123,11 +123,11 @@ kept_more m s t w after run h waits cells families runs = record {
 }
   where
     own : (c : Cell) (k n : ℕ) → after < n → marked_own m c n ≡ true → (r : Run) → (Contains s.runs.items r ⊎ (r ≡ run)) →
-        ((p : Index) × Contains r.indices p × (c ≡ cell_at r.row.kind r.row.name p)) → numbered w n ≡ true
+        ((p : Index) × Contains r.indices p × (c ≡ cell_of r.row p)) → numbered w n ≡ true
     own c k n up met r (inl had) g = h.cells c k n (inr (r, had, g)) up met
     own c k n up met r (inr same) g =
-        let there = subst (λ (x : Run). (p : Index) × Contains x.indices p × (c ≡ cell_at x.row.kind x.row.name p)) same g in
-        waits n up (point_there (λ p. marked_own m (cell_at run.row.kind run.row.name p) n) run.indices there.0 there.1
+        let there = subst (λ (x : Run). (p : Index) × Contains x.indices p × (c ≡ cell_of x.row p)) same g in
+        waits n up (point_there (λ p. marked_own m (cell_of run.row p) n) run.indices there.0 there.1
         (ap (λ x. marked_own m x n) (sym there.2) ∙ met))
 
     by : (c : Cell) (k n : ℕ) → after < n → marked_own m c n ≡ true → IsGone t c k → numbered w n ≡ true
@@ -140,13 +140,13 @@ pub any_here : {X : Type 0} (f : X → Bool) (xs : List X) (i : ℕ) (d : X) →
 any_here f xs i d low is = any_in_front f xs (i + 1) (list_any_more f xs i d low ∙ or_last (list_any f (take i xs)) (f (get_or xs i d)) is)
 
 -- one index more of those of which all wait
-pub run_more : (m : FootIndex) (s t : SweptCells) (w : Numbers) (after : ℕ) (kind : Kind) (name : Name) (ps : List Index) (i : ℕ) (p : Index) (c : Cell) →
-    AreSwept m s w after → AreWaiting m kind name ps w after → i < length ps → p ≡ get_or ps i p → c ≡ cell_at kind name p →
+pub run_more : (m : FootIndex) (s t : SweptCells) (w : Numbers) (after : ℕ) (row : IndexedRow) (ps : List Index) (i : ℕ) (p : Index) (c : Cell) →
+    AreSwept m s w after → AreWaiting m row ps w after → i < length ps → p ≡ get_or ps i p → c ≡ cell_of row p →
     Sets (marked cell_cmp s.cells) (marked cell_cmp t.cells) (eq_by_cmp cell_cmp c) 1 true → t.runs ≡ s.runs → t.families ≡ s.families → AreSwept m t w after
-run_more m s t w after kind name ps i p c h waits low is at sets runs same =
+run_more m s t w after row ps i p c h waits low is at sets runs same =
     swept_more m s t w w after c h
-    (wait_already w (marked_own m c) after (λ n up met. waits n up (any_here (λ q. marked_own m (cell_at kind name q) n) ps i p low
-    (ap (λ q. marked_own m (cell_at kind name q) n) (sym is) ∙ ap (λ x. marked_own m x n) (sym at) ∙ met))))
+    (wait_already w (marked_own m c) after (λ n up met. waits n up (any_here (λ q. marked_own m (cell_of row q) n) ps i p low
+    (ap (λ q. marked_own m (cell_of row q) n) (sym is) ∙ ap (λ x. marked_own m x n) (sym at) ∙ met))))
     sets runs same
 
 not_true : (b : Bool) → (b ≡ true → ⊥) → b ≡ false
@@ -154,31 +154,31 @@ not_true true never = absurd (never refl)
 not_true false never = refl
 
 -- those of the new indices join, and those of the others wait already
-pub new_joined : (m : FootIndex) (s : SweptCells) (w v : Numbers) (after : ℕ) (kind : Kind) (name : Name) (fresh ps : List Index) →
-    AreSwept m s w after → ((f : Index → Bool) → FailsBehind s kind name f → list_any f fresh ≡ list_any f ps) →
-    JoinedAfter w v (λ n. list_any (λ p. marked_own m (cell_at kind name p) n) fresh) after →
-    JoinedAfter w v (λ n. list_any (λ p. marked_own m (cell_at kind name p) n) ps) after
-new_joined m s w v after kind name fresh ps h is joined = record {
+pub new_joined : (m : FootIndex) (s : SweptCells) (w v : Numbers) (after : ℕ) (row : IndexedRow) (fresh ps : List Index) →
+    AreSwept m s w after → ((f : Index → Bool) → FailsBehind s row f → list_any f fresh ≡ list_any f ps) →
+    JoinedAfter w v (λ n. list_any (λ p. marked_own m (cell_of row p) n) fresh) after →
+    JoinedAfter w v (λ n. list_any (λ p. marked_own m (cell_of row p) n) ps) after
+new_joined m s w v after row fresh ps h is joined = record {
   from = λ n has. came n has (numbered w n) refl;
   stay = joined.stay;
   all = λ n up met. come n up met (numbered w n) refl;
 }
   where
-    fails : (n : ℕ) → after < n → numbered w n ≡ false → FailsBehind s kind name (λ p. marked_own m (cell_at kind name p) n)
-    fails n up none = λ p k gone. not_true (marked_own m (cell_at kind name p) n)
-        (λ met. true≢false (sym (h.cells (cell_at kind name p) k n (inl gone) up met) ∙ none))
+    fails : (n : ℕ) → after < n → numbered w n ≡ false → FailsBehind s row (λ p. marked_own m (cell_of row p) n)
+    fails n up none = λ p k gone. not_true (marked_own m (cell_of row p) n)
+        (λ met. true≢false (sym (h.cells (cell_of row p) k n (inl gone) up met) ∙ none))
 
     came : (n : ℕ) → numbered v n ≡ true → (b : Bool) → numbered w n ≡ b →
-        (numbered w n ≡ true) ⊎ ((after < n) × (list_any (λ p. marked_own m (cell_at kind name p) n) ps ≡ true))
+        (numbered w n ≡ true) ⊎ ((after < n) × (list_any (λ p. marked_own m (cell_of row p) n) ps ≡ true))
     came n has true e = inl e
     came n has false e = elim (joined.from n has) [
       | inl had ↦ inl had
-      | inr met ↦ inr (met.0, sym (is (λ p. marked_own m (cell_at kind name p) n) (fails n met.0 e)) ∙ met.1)
+      | inr met ↦ inr (met.0, sym (is (λ p. marked_own m (cell_of row p) n) (fails n met.0 e)) ∙ met.1)
     ]
 
-    come : (n : ℕ) → after < n → list_any (λ p. marked_own m (cell_at kind name p) n) ps ≡ true → (b : Bool) → numbered w n ≡ b → numbered v n ≡ true
+    come : (n : ℕ) → after < n → list_any (λ p. marked_own m (cell_of row p) n) ps ≡ true → (b : Bool) → numbered w n ≡ b → numbered v n ≡ true
     come n up met true e = joined.stay n e
-    come n up met false e = joined.all n up (is (λ p. marked_own m (cell_at kind name p) n) (fails n up e) ∙ met)
+    come n up met false e = joined.all n up (is (λ p. marked_own m (cell_of row p) n) (fails n up e) ∙ met)
 
 -- ---- new indices
 

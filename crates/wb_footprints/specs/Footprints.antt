@@ -7,16 +7,17 @@ use Rattle.wb_cells.specs.declared.cells.cell.Cell.{Cell}
 use Rattle.wb_cells.specs.declared.cells.pattern.Pattern.{Pattern}
 use Rattle.selective_undo.specs.Changes.{changes}
 use Rattle.selective_undo.specs.Edit.{covers}
-use Rattle.wb_cells.specs.Cells.{Name, Changes, cell_cmp}
+use Rattle.wb_cells.specs.Cells.{Changes, cell_cmp}
 use Rattle.wb_cells.specs.Schema.{workbook}
-use Rattle.wb_footprints.specs.declared.place.Place.{Place}
+use Rattle.wb_cells.specs.Runs.{cell_of}
+use Rattle.wb_cells.specs.declared.changes.row.IndexedRow.{IndexedRow}
+use Rattle.wb_footprints.specs.declared.places.place.Place.{Place}
 use Rattle.wb_footprints.specs.declared.foot_index.FootIndex.{FootIndex}
-use Rattle.wb_footprints.specs.declared.place_marks.PlaceMarks.{PlaceMarks}
-use Rattle.wb_footprints.specs.declared.part.Kind.{Kind}
-use Rattle.wb_footprints.specs.declared.marking.Marking.{Marking}
-use Rattle.wb_footprints.specs.declared.marking.Marking.TheVariants.{Own, Families}
+use Rattle.wb_footprints.specs.declared.marks.place_marks.PlaceMarks.{PlaceMarks}
+use Rattle.wb_footprints.specs.declared.places.marking.Marking.{Marking}
+use Rattle.wb_footprints.specs.declared.places.marking.Marking.TheVariants.{Own, Families}
 use Rattle.wb_cells.specs.declared.values.index.Index.{Index}
-use Rattle.wb_footprints.specs.Places.{own, family, place_of, is_same_place, place_marked, cell_at}
+use Rattle.wb_footprints.specs.Places.{own, family, place_of, is_same_place, place_marked}
 
 -- what edits read and touched, by their numbers; some numbers have no footprint
 abbrev pub Footprints : Type 0
@@ -39,13 +40,13 @@ marked_at m xs q = list_any (λ x. at_cell m x.cell q) xs
 abbrev pub cells_of : Changes → List Cell
 cells_of xs = map (λ x. x.cell) xs
 
--- the cells of one kind of one object at some indices
-abbrev pub run_cells : Kind → Name → List Index → List Cell
-run_cells k d ps = map (cell_at k d) ps
+-- the cells of a row at some indices
+abbrev pub run_cells : IndexedRow → List Index → List Cell
+run_cells row ps = map (cell_of row) ps
 
--- whether one of the cells of one kind of one object at some indices is marked at a place
-abbrev pub run_marked : Marking → Kind → Name → List Index → Place → Bool
-run_marked m k d ps q = list_any (λ p. at_cell m (cell_at k d p) q) ps
+-- whether one of the cells of a row at some indices is marked at a place
+abbrev pub run_marked : Marking → IndexedRow → List Index → Place → Bool
+run_marked m row ps q = list_any (λ p. at_cell m (cell_of row p) q) ps
 
 -- whether changes touch a place: that of a cell, or of its family
 abbrev pub touched_at : Changes → Place → Bool
@@ -55,9 +56,9 @@ touched_at xs q = marked_at Families xs q
 abbrev pub read_at : List Pattern → Place → Bool
 read_at rs q = list_any (λ r. is_same_place (place_of r) q) rs
 
--- a number stands at no place at which such a cell is marked
-abbrev pub IsUnmarked : Marking → Kind → Name → PlaceMarks → ℕ → Type 0
-IsUnmarked m k d marks n = (p : Index) (q : Place) → at_cell m (cell_at k d p) q ≡ true → place_marked marks q n ≡ false
+-- a number stands at no place at which a cell of a row is marked
+abbrev pub IsUnmarked : Marking → IndexedRow → PlaceMarks → ℕ → Type 0
+IsUnmarked m row marks n = (p : Index) (q : Place) → at_cell m (cell_of row p) q ≡ true → place_marked marks q n ≡ false
 
 -- whether a footprint, where there is one, touched a place
 abbrev pub touched_by : Option (Footprint workbook) → Place → Bool

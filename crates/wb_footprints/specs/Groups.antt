@@ -2,8 +2,8 @@
 use Rattle.std.specs.Prelude.{◌≡◌, ℕ, ◌+◌, Bool, true, false, cond, ◌&&◌, ◌==◌, nat_le, nat_lt, List}
 use Rattle.std.specs.List.{list_any, AllByRecursion}
 use Rattle.std.specs.Ordering.{nat_cmp}
-use Rattle.wb_footprints.specs.declared.blocks.Blocks.{Blocks}
-use Rattle.wb_footprints.specs.declared.marks.Marks.{Marks}
+use Rattle.wb_footprints.specs.declared.marks.blocks.Blocks.{Blocks}
+use Rattle.wb_footprints.specs.declared.marks.key_marks.Marks.{Marks}
 use Rattle.wb_footprints.specs.Marks.{marked}
 use Rattle.wb_cells.specs.declared.values.index.Index.{Index}
 use Rattle.wb_footprints.specs.Keys.{index_key}

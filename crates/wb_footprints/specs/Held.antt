@@ -1,8 +1,8 @@
 -- Points as they are kept: one by one, as the indices of a rectangle, or one alone.
 use Rattle.std.specs.Prelude.{List, [], ◌∷◌}
 use Rattle.wb_rect.specs.Product.{product}
-use Rattle.wb_footprints.specs.declared.points.Held.{Held}
-use Rattle.wb_footprints.specs.declared.points.Held.TheVariants.{Listed, Within, One}
+use Rattle.wb_footprints.specs.declared.places.points.Held.{Held}
+use Rattle.wb_footprints.specs.declared.places.points.Held.TheVariants.{Listed, Within, One}
 use Rattle.wb_footprints.specs.Points.{Coordinates}
 
 -- the points

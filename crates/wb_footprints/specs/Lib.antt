@@ -15,7 +15,7 @@ pub mod Blocks
 pub mod Groups
 pub mod Reaches
 pub mod Parts
-pub mod Spots
+pub mod ObjectParts
 pub mod Places
 pub mod Footprints
 pub mod Swept

@@ -1,7 +1,7 @@
 -- Labels in one list of bytes.
 use Rattle.std.specs.Prelude.{ℕ, ◌+◌, ◌≤◌, List, length, map, take, drop}
 use Rattle.wb_sets.specs.Labels.{IsLabel}
-use Rattle.wb_footprints.specs.declared.label_list.LabelPlace.{LabelPlace}
+use Rattle.wb_footprints.specs.declared.places.label_list.LabelPlace.{LabelPlace}
 
 -- the bytes of a label: so many, from where it begins
 abbrev pub label_in : List ℕ → LabelPlace → List ℕ

@@ -3,7 +3,7 @@ use Rattle.std.specs.Prelude.{ℕ, Bool}
 use Rattle.std.specs.BTreeSet.{contains}
 use Rattle.std.specs.Ordering.{nat_cmp, ordering_then}
 use Rattle.std.specs.declared.cmp.Ordering.{Ordering}
-use Rattle.wb_footprints.specs.declared.marks.Marks.{Marks}
+use Rattle.wb_footprints.specs.declared.marks.key_marks.Marks.{Marks}
 
 -- the order of pairs of a key and a number
 abbrev pub pair_cmp : {K : Type 0} → (K → K → Ordering) → (K × ℕ) → (K × ℕ) → Ordering

@@ -6,12 +6,12 @@ use Rattle.std.specs.Ordering.{nat_cmp, eq_by_cmp}
 use Rattle.wb_cells.specs.declared.values.index.Index.{Index}
 use Rattle.wb_cells.specs.declared.values.index.Index.TheVariants.{Point, Text}
 use Rattle.wb_cells.specs.Cells.{Name, is_same_name, is_same_index}
-use Rattle.wb_footprints.specs.declared.part.Kind.{Kind}
-use Rattle.wb_footprints.specs.declared.part.Kind.TheVariants.{Inside, Members, Elements}
-use Rattle.wb_footprints.specs.declared.part.Part.{Part}
-use Rattle.wb_footprints.specs.declared.part.Part.TheVariants.{Slot, In, Member, User, Element}
-use Rattle.wb_footprints.specs.declared.index_marks.IndexMarks.{IndexMarks}
-use Rattle.wb_footprints.specs.declared.name_marks.NameMarks.{NameMarks}
+use Rattle.wb_cells.specs.declared.changes.row.RowKind.{RowKind}
+use Rattle.wb_cells.specs.declared.changes.row.RowKind.TheVariants.{Inside, Members, Elements}
+use Rattle.wb_footprints.specs.declared.places.part.Part.{Part}
+use Rattle.wb_footprints.specs.declared.places.part.Part.TheVariants.{Slot, In, Member, User, Element}
+use Rattle.wb_footprints.specs.declared.marks.index_marks.IndexMarks.{IndexMarks}
+use Rattle.wb_footprints.specs.declared.marks.name_marks.NameMarks.{NameMarks}
 use Rattle.wb_footprints.specs.Marks.{marked}
 use Rattle.wb_footprints.specs.Slots.{slot_cmp, slot_marked}
 use Rattle.wb_footprints.specs.PointMarks.{point_marked}
@@ -19,8 +19,8 @@ use Rattle.wb_footprints.specs.Indices.{in_indices}
 use Rattle.wb_footprints.specs.Reaches.{in_reaches}
 
 -- a part of the object of a name
-abbrev pub Spot : Type 0
-Spot = Name × Part
+abbrev pub ObjectPart : Type 0
+ObjectPart = Name × Part
 
 -- whether a number stands at an index alone
 abbrev pub alone_marked : IndexMarks → Index → ℕ → Bool
@@ -32,14 +32,14 @@ abbrev pub index_marked : IndexMarks → Index → ℕ → Bool
 index_marked m i n = alone_marked m i n || in_reaches m.blocks.reaches.items i n
 
 -- whether a part is one of its kind at one of some indices
-abbrev pub in_run : Kind → List Index → Part → Bool
+abbrev pub in_run : RowKind → List Index → Part → Bool
 in_run Inside is (In i) = in_indices is i
 in_run Members is (Member i) = in_indices is i
 in_run Elements is (Element i) = in_indices is i
 in_run _ _ _ = false
 
 -- the part of its kind at an index
-abbrev pub part_at : Kind → Index → Part
+abbrev pub part_at : RowKind → Index → Part
 part_at Inside i = In i
 part_at Members i = Member i
 part_at Elements i = Element i

@@ -5,17 +5,16 @@ use Rattle.wb_cells.specs.declared.cells.cell.Cell.{Cell}
 use Rattle.wb_cells.specs.declared.cells.cell.Cell.TheVariants as c
 use Rattle.wb_cells.specs.declared.cells.pattern.Pattern.{Pattern}
 use Rattle.wb_cells.specs.declared.cells.pattern.Pattern.TheVariants as p
-use Rattle.wb_cells.specs.Cells.{Name}
-use Rattle.wb_footprints.specs.declared.part.Kind.{Kind}
-use Rattle.wb_footprints.specs.declared.part.Kind.TheVariants as k
-use Rattle.wb_footprints.specs.declared.part.Slot.TheVariants as s
-use Rattle.wb_footprints.specs.declared.part.Part.TheVariants as part
-use Rattle.wb_footprints.specs.declared.place.Place.{Place}
-use Rattle.wb_footprints.specs.declared.place.Place.TheVariants.{Objects, Of}
-use Rattle.wb_footprints.specs.declared.place_marks.PlaceMarks.{PlaceMarks}
+use Rattle.wb_cells.specs.Runs.{name_of_row, kind_of_row}
+use Rattle.wb_cells.specs.declared.changes.row.IndexedRow.{IndexedRow}
+use Rattle.wb_footprints.specs.declared.places.part.Slot.TheVariants as s
+use Rattle.wb_footprints.specs.declared.places.part.Part.TheVariants as part
+use Rattle.wb_footprints.specs.declared.places.place.Place.{Place}
+use Rattle.wb_footprints.specs.declared.places.place.Place.TheVariants.{Objects, Of}
+use Rattle.wb_footprints.specs.declared.marks.place_marks.PlaceMarks.{PlaceMarks}
 use Rattle.wb_footprints.specs.Marks.{marked}
 use Rattle.wb_cells.specs.declared.values.index.Index.{Index}
-use Rattle.wb_footprints.specs.Spots.{spot_marked, is_same_spot, in_spots}
+use Rattle.wb_footprints.specs.ObjectParts.{object_marked, is_same_object_part, in_object_parts}
 
 -- the place of one cell
 abbrev pub own : Cell → Place
@@ -50,25 +49,19 @@ place_of (p.Elements d) = Of d (part.Slot s.Elements)
 -- whether two places are one
 abbrev pub is_same_place : Place → Place → Bool
 is_same_place Objects Objects = true
-is_same_place (Of d x) (Of e y) = is_same_spot (d, x) (e, y)
+is_same_place (Of d x) (Of e y) = is_same_object_part (d, x) (e, y)
 is_same_place _ _ = false
 
 -- whether a number stands at a place
 abbrev pub place_marked : PlaceMarks → Place → ℕ → Bool
 place_marked m Objects n = marked bool_cmp m.objects true n
-place_marked m (Of d x) n = spot_marked m.spots (d, x) n
+place_marked m (Of d x) n = object_marked m.parts (d, x) n
 
 -- whether a place is that of the family of a cell
 abbrev pub is_family : Place → Cell → Bool
 is_family q x = elim (family x) [ Some f ↦ is_same_place q f | None ↦ false ]
 
--- the cell of its kind, of the object of a name, at an index
-abbrev pub cell_at : Kind → Name → Index → Cell
-cell_at k.Inside d i = c.In d i
-cell_at k.Members d i = c.Member d i
-cell_at k.Elements d i = c.Element d i
-
--- whether a place is that of such a cell at one of some indices
-abbrev pub in_places : Name → Kind → List Index → Place → Bool
-in_places d kind ps Objects = false
-in_places d kind ps (Of e x) = in_spots d kind ps (e, x)
+-- whether a place is that of a cell of a row at one of some indices
+abbrev pub in_places : IndexedRow → List Index → Place → Bool
+in_places row ps Objects = false
+in_places row ps (Of e x) = in_object_parts (name_of_row row) (kind_of_row row) ps (e, x)

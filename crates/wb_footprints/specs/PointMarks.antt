@@ -1,8 +1,8 @@
 -- Which numbers stand at which points: those of one coordinate stand apart, where they take less room.
 use Rattle.std.specs.Prelude.{ℕ, ℤ, Bool, false, ◌||◌, [], ◌∷◌, Option, Some, None}
 use Rattle.std.specs.Ordering.{int_cmp}
-use Rattle.wb_footprints.specs.declared.marks.Marks.{Marks}
-use Rattle.wb_footprints.specs.declared.point_marks.PointMarks.{PointMarks}
+use Rattle.wb_footprints.specs.declared.marks.key_marks.Marks.{Marks}
+use Rattle.wb_footprints.specs.declared.marks.point_marks.PointMarks.{PointMarks}
 use Rattle.wb_footprints.specs.Marks.{marked}
 use Rattle.wb_footprints.specs.Points.{Coordinates, point_cmp}
 

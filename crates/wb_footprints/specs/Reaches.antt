@@ -1,7 +1,7 @@
 -- Which numbers stand at which indices by blocks of several reaches.
 use Rattle.std.specs.Prelude.{ℕ, Bool, List}
 use Rattle.std.specs.List.{list_any}
-use Rattle.wb_footprints.specs.declared.reach_marks.ReachMarks.{ReachMarks}
+use Rattle.wb_footprints.specs.declared.marks.reach_marks.ReachMarks.{ReachMarks}
 use Rattle.wb_cells.specs.declared.values.index.Index.{Index}
 use Rattle.wb_footprints.specs.Groups.{in_groups}
 

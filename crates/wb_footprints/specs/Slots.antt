@@ -1,10 +1,10 @@
 -- Which numbers stand at which slots of an object.
 use Rattle.std.specs.Prelude.{ℕ, Bool}
 use Rattle.std.specs.declared.cmp.Ordering.{Ordering}
-use Rattle.wb_footprints.specs.contracts.part.SlotOrd.TheImpl as slots
-use Rattle.wb_footprints.specs.declared.part.Slot as slot
-use Rattle.wb_footprints.specs.declared.part.Slot.TheVariants.{Object, Shape, Mapping, Implicit, Members, Uses, Elements}
-use Rattle.wb_footprints.specs.declared.slot_marks.SlotMarks.{SlotMarks}
+use Rattle.wb_footprints.specs.contracts.places.part.SlotOrd.TheImpl as slots
+use Rattle.wb_footprints.specs.declared.places.part.Slot as slot
+use Rattle.wb_footprints.specs.declared.places.part.Slot.TheVariants.{Object, Shape, Mapping, Implicit, Members, Uses, Elements}
+use Rattle.wb_footprints.specs.declared.marks.slot_marks.SlotMarks.{SlotMarks}
 use Rattle.wb_footprints.specs.Numbers.{numbered}
 
 -- the order in which the cells and families of one object are declared

@@ -4,10 +4,10 @@ ghost use Rattle.std.specs.Prelude.{◌≡◌, ◌++◌, Some, None, OnOk, OnErr
 ghost use Rattle.wb_cells.specs.Reads.{all_read};
 ghost use Rattle.wb_footprints.specs.Footprints.{Footprints, IsIndexOf, footprint, with_footprint};
 
-use crate::cell_lists::{mark_all, unmark_all};
-use crate::marking::Marking;
-use crate::place_marks::PlaceMarks;
-use crate::reading::{read_all, unread_all};
+use crate::marks::cell_lists::{mark_all, unmark_all};
+use crate::marks::place_marks::PlaceMarks;
+use crate::marks::reading::{mark_reads, unmark_reads};
+use crate::places::marking::Marking;
 use std::alloc::Global;
 use wb_cells::{Changes, Pattern, ReadRun};
 use wb_range::NoMemory;
@@ -57,8 +57,8 @@ impl FootIndex {
             unmark_all(&mut self.touched, Marking::Families, before, number);
             return Err(NoMemory);
         }
-        if read_all(&mut self.read, reads, runs, number).is_err() {
-            unread_all(&mut self.read, reads, runs, number);
+        if mark_reads(&mut self.read, reads, runs, number).is_err() {
+            unmark_reads(&mut self.read, reads, runs, number);
             unmark_all(&mut self.touched, Marking::Families, before, number);
             return Err(NoMemory);
         }
@@ -71,6 +71,6 @@ impl FootIndex {
             IsIndexOf self.new (with_footprint footprints number None) }
     {
         unmark_all(&mut self.touched, Marking::Families, before, number);
-        unread_all(&mut self.read, reads, runs, number);
+        unmark_reads(&mut self.read, reads, runs, number);
     }
 }

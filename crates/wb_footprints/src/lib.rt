@@ -5,37 +5,11 @@
 //! names; to touch a cell is to touch its family too.
 #![tactic(auto)]
 
-mod areas;
-mod block_marks;
-mod blockers;
-mod blocks;
-mod cell_lists;
-mod earlier;
 mod foot_index;
-mod groups;
-mod index_marks;
-mod indices;
-mod keys;
-mod label_list;
-mod labels;
-mod marking;
 mod marks;
-mod name_marks;
-mod numbers;
-mod part;
-mod place;
-mod place_marks;
-mod point_marks;
-mod points;
-mod queries;
-mod reach_marks;
-mod reading;
-mod runs;
-mod slot_marks;
-mod spots;
-mod swept;
-mod text_marks;
+mod places;
+mod questions;
 
 pub use crate::foot_index::FootIndex;
-pub use crate::numbers::Numbers;
-pub use crate::swept::SweptCells;
+pub use crate::marks::numbers::Numbers;
+pub use crate::questions::swept::SweptCells;

@@ -7,8 +7,8 @@ use Rattle.selective_undo.proofs.Inverses.{edit_at, undo_after_redo_law, redo_af
 use Rattle.wb_cells.specs.Cells.{count_of}
 use Rattle.wb_cells.specs.Schema.{workbook}
 use Rattle.wb_edit.specs.declared.edit.Edit as command
-use Rattle.wb_log.specs.declared.refusal.Refusal.{Refusal}
-use Rattle.wb_log.specs.declared.refusal.Refusal.TheVariants.{NoMemory}
+use Rattle.wb_edit.specs.declared.refusal.Refusal.{Refusal}
+use Rattle.wb_edit.specs.declared.refusal.Refusal.TheVariants.{NoMemory}
 use Rattle.wb_log.specs.Past.{Numbered, meant, entry_at, out_of_force, into_force}
 use Rattle.wb_log.specs.Replies.{UndoReply, LastReply, RedoReply}
 use Rattle.wb_history.specs.ReplyLaws.{UndoAfterRedoAnswerLaw, RedoAfterLastAnswerLaw, RedoBackAnswerLaw}

@@ -19,8 +19,8 @@ use Rattle.wb_cells.specs.Layouts.{locale_in}
 use Rattle.wb_cells.specs.Locales.{mapping_in}
 use Rattle.wb_cells.specs.Readers.{elements}
 use Rattle.wb_cells.specs.WellFormed.{IsWellFormed, HasMapping, domain_at, domain_in, array_in}
-use Rattle.wb_cells.specs.declared.refusal.Refusal as why
-use Rattle.wb_cells.specs.declared.refusal.Refusal.TheVariants.{OutOfDomain}
+use Rattle.wb_cells.specs.declared.refusal.WhyRefused as why
+use Rattle.wb_cells.specs.declared.refusal.WhyRefused.TheVariants.{OutOfDomain}
 use Rattle.wb_edit.specs.Looks.{domain_kind, array_kind}
 use Rattle.wb_book.specs.Piecewise.Lent.{piece_in}
 use Rattle.wb_book.specs.Shelf.{mapping_of, lies_by, piece_at, piece_by}
@@ -85,7 +85,7 @@ of_domain s d k l es (Some (Bound b)) formed is there = cc
 of_domain s d k l es (Some (Number z)) formed is there = cc
 
 -- a piece, or that there is no such locale
-abbrev pub or_outside : Option (List (Index × ℤ)) → Result (List (Index × ℤ)) why.Refusal
+abbrev pub or_outside : Option (List (Index × ℤ)) → Result (List (Index × ℤ)) why.WhyRefused
 or_outside (Some xs) = Ok xs
 or_outside None = Err OutOfDomain
 

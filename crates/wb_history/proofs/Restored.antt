@@ -8,15 +8,15 @@ use Rattle.selective_undo.specs.History.{Entry, done, undone, replay_from, trace
 use Rattle.selective_undo.specs.Log.{Logged, IsKept, history, entry_of, footprints, footprint_of}
 use Rattle.selective_undo.proofs.Log.{append-map, last_or, get-map}
 use Rattle.std.specs.FinMap.{empty}
-use Rattle.wb_cells.specs.Cells.{Cells, count_of, written_more}
+use Rattle.wb_cells.specs.Cells.{Cells, count_of, saturating_add}
 use Rattle.wb_edit.specs.declared.edit.Edit as command
 use Rattle.wb_cells.specs.Schema.{workbook}
 use Rattle.wb_edit.specs.Edits.{meaning}
 use Rattle.wb_edit.specs.Edits.{IsValid}
 use Rattle.wb_log.specs.declared.entry.Entry as kept
-use Rattle.wb_log.specs.declared.refusal.Refusal.{Refusal}
-use Rattle.wb_log.specs.declared.refusal.Refusal.TheVariants.{BadRequest, BadLiteral, Refused, NoSuchEdit, NotInForce, InForce as IsInForce, Blocked}
-use Rattle.wb_log.specs.declared.refusal.Refusal.TheVariants.{RefusedInPlace, NoMemory, StrangePass}
+use Rattle.wb_edit.specs.declared.refusal.Refusal.{Refusal}
+use Rattle.wb_edit.specs.declared.refusal.Refusal.TheVariants.{BadRequest, BadLiteral, Refused, NoSuchEdit, NotInForce, InForce as IsInForce, Blocked}
+use Rattle.wb_edit.specs.declared.refusal.Refusal.TheVariants.{RefusedInPlace, NoMemory, StrangePass}
 use Rattle.wb_history.specs.declared.restore.RestoreErr.{RestoreErr}
 use Rattle.wb_history.specs.declared.restore.RestoreErr.TheVariants.{NotLegal, NoMemory as NoRoom}
 use Rattle.wb_log.specs.Past.{Numbered, Past, entry_at, meant, AreValid}
@@ -113,7 +113,7 @@ capped c n m =
     let d = sub-add-min_cancel (c + n) m in
     omega (arith, a, b, d)
 
-counted_on : (c d n w v : ℕ) → w ≡ written_more 0 c → v ≡ written_more w n → d ≡ c + n → v ≡ written_more 0 d
+counted_on : (c d n w v : ℕ) → w ≡ saturating_add 0 c → v ≡ saturating_add w n → d ≡ c + n → v ≡ saturating_add 0 d
 counted_on c d n w v is more sum =
     let m = 2 ^ 128 - 1 in
     let zero_c : 0 + c ≡ c = omega arith in
@@ -133,7 +133,7 @@ none_more h e =
     ap cells_written (follows h (undone e ∷ []) empty).1 ∙ written_append (traces h) (None ∷ []) ∙ same
 
 pub counted_edit : (p q : Past) (e : command.Edit) (r : ℕ × ℕ) → EditReply (meant p.entries) (meaning e) (Ok r) → q.entries ≡ p.entries ++ one_of e true ∷ [] →
-    q.writes ≡ written_more p.writes r.1 → IsCounted p → IsCounted q
+    q.writes ≡ saturating_add p.writes r.1 → IsCounted p → IsCounted q
 counted_edit p q e r (k, (xs, accepted, n)) more writes counted =
     let h = meant p.entries in
     let now_is : traces (meant q.entries) ≡ traces (h ++ done (meaning e) ∷ []) = ap (λ es. traces (meant es)) more ∙
@@ -147,7 +147,7 @@ counted_aside p q e more writes counted =
     let h = meant p.entries in
     let now_is : traces (meant q.entries) ≡ traces (h ++ undone (meaning e) ∷ []) = ap (λ es. traces (meant es)) more ∙
     ap traces (meant_more p.entries (one_of e false ∷ [])) in
-    writes ∙ counted ∙ ap (written_more 0) (sym (ap cells_written now_is ∙ none_more h (meaning e)))
+    writes ∙ counted ∙ ap (saturating_add 0) (sym (ap cells_written now_is ∙ none_more h (meaning e)))
 
 -- ---- an edit in force that is refused
 

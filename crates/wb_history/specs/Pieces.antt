@@ -10,13 +10,13 @@ use Rattle.wb_cells.specs.declared.values.index.Index.{Index}
 use Rattle.wb_cells.specs.Cells.{Name, Cells}
 use Rattle.wb_cells.specs.Locales.{locale_by, locale_count_at}
 use Rattle.wb_cells.specs.Readers.{elements}
-use Rattle.wb_cells.specs.declared.refusal.Refusal as why
-use Rattle.wb_cells.specs.declared.refusal.Refusal.TheVariants.{OutOfDomain}
+use Rattle.wb_cells.specs.declared.refusal.WhyRefused as why
+use Rattle.wb_cells.specs.declared.refusal.WhyRefused.TheVariants.{OutOfDomain}
 use Rattle.wb_edit.specs.Looks.{domain_kind, array_kind}
 use Rattle.wb_history.specs.declared.query.Answer.{Answer}
 use Rattle.wb_history.specs.declared.query.Answer.TheVariants.{Piece}
-use Rattle.wb_log.specs.declared.refusal.Refusal.{Refusal}
-use Rattle.wb_log.specs.declared.refusal.Refusal.TheVariants.{Refused, NoMemory}
+use Rattle.wb_edit.specs.declared.refusal.Refusal.{Refusal}
+use Rattle.wb_edit.specs.declared.refusal.Refusal.TheVariants.{Refused, NoMemory}
 use Rattle.wb_edit.specs.Trees.{plain}
 
 -- the domain by whose mapping the indices of d lie: a sparse domain has none of its own, and goes by its parent's
@@ -26,7 +26,7 @@ mapped_by d (Sparse parent rank) = parent
 mapped_by d (Associative type) = d
 
 -- the domain by whose mapping the indices of d lie, by what d is
-abbrev pub mapped_as : (d : Name) → Result DomainKind why.Refusal → Name
+abbrev pub mapped_as : (d : Name) → Result DomainKind why.WhyRefused → Name
 mapped_as d (Ok kind) = mapped_by d kind
 mapped_as d (Err e) = d
 
@@ -46,18 +46,18 @@ abbrev pub piece_on : Cells → (a e : Name) → (l : ℕ) → List (Index × �
 piece_on s a e l = filter (lies_on s e l) (elements s a)
 
 -- the same where there is such a locale; they are numbered from 0
-abbrev pub piece_by : Cells → (a e : Name) → (l : ℕ) → Result (List (Index × ℤ)) why.Refusal
+abbrev pub piece_by : Cells → (a e : Name) → (l : ℕ) → Result (List (Index × ℤ)) why.WhyRefused
 piece_by s a e l = if nat_lt l (locales_of s e) then Ok (piece_on s a e l) else Err OutOfDomain
 
-abbrev pub piece_from : Cells → (a : Name) → (l : ℕ) → Result (Name × Kind) why.Refusal → Result (List (Index × ℤ)) why.Refusal
+abbrev pub piece_from : Cells → (a : Name) → (l : ℕ) → Result (Name × Kind) why.WhyRefused → Result (List (Index × ℤ)) why.WhyRefused
 piece_from s a l (Ok (d, kind)) = piece_by s a (mapped_at s d) l
 piece_from s a l (Err e) = Err e
 
 -- the name is an array's, and the mapping of its domain has the locale
-abbrev pub piece_of : Cells → (a : Name) → (l : ℕ) → Result (List (Index × ℤ)) why.Refusal
+abbrev pub piece_of : Cells → (a : Name) → (l : ℕ) → Result (List (Index × ℤ)) why.WhyRefused
 piece_of s a l = piece_from s a l (array_kind (get s (Object a)))
 
-abbrev pub piece_answer : Result (List (Index × ℤ)) why.Refusal → Result Answer Refusal
+abbrev pub piece_answer : Result (List (Index × ℤ)) why.WhyRefused → Result Answer Refusal
 piece_answer (Ok xs) = Ok (Piece xs)
 piece_answer (Err e) = Err (Refused (plain e))
 

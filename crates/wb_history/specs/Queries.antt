@@ -8,16 +8,16 @@ use Rattle.wb_cells.specs.declared.cells.value.Value.{Value}
 use Rattle.wb_cells.specs.declared.values.index.Index.{Index}
 use Rattle.wb_cells.specs.Cells.{Name, Cells}
 use Rattle.wb_cells.specs.Readers.{size_at}
-use Rattle.wb_cells.specs.declared.refusal.Refusal as why
+use Rattle.wb_cells.specs.declared.refusal.WhyRefused as why
 use Rattle.wb_edit.specs.Implicit.{has_implicit, parent_in}
 use Rattle.wb_edit.specs.Numbers.{element_or_refusal}
 use Rattle.wb_edit.specs.Looks.{domain_kind, array_kind, is_there, fits}
 use Rattle.wb_history.specs.declared.query.Answer.{Answer}
 use Rattle.wb_history.specs.declared.query.Answer.TheVariants.{Value as ValueIs, Size as SizeIs, InForce, Note as NoteIs}
-use Rattle.wb_history.specs.declared.query.Query.{Query}
-use Rattle.wb_history.specs.declared.query.Query.TheVariants.{Get, Size, Where, Piece, Reduce, State, Note}
-use Rattle.wb_log.specs.declared.refusal.Refusal.{Refusal}
-use Rattle.wb_log.specs.declared.refusal.Refusal.TheVariants.{Refused, NoSuchEdit}
+use Rattle.wb_edit.specs.declared.query.Query.{Query}
+use Rattle.wb_edit.specs.declared.query.Query.TheVariants.{Get, Size, Where, Piece, Reduce, State, Note}
+use Rattle.wb_edit.specs.declared.refusal.Refusal.{Refusal}
+use Rattle.wb_edit.specs.declared.refusal.Refusal.TheVariants.{Refused, NoSuchEdit}
 use Rattle.wb_history.specs.Locales.{where_answer, locale_answer}
 use Rattle.wb_history.specs.Pieces.{piece_of, piece_answer, OrNoMemory}
 use Rattle.wb_history.specs.Reductions.{reduce_answer}
@@ -27,52 +27,52 @@ use Rattle.wb_edit.specs.Edits.{note_of}
 use Rattle.wb_edit.specs.Trees.{plain}
 
 -- the implicit value of an array
-abbrev pub value_inside : Cells → Name → Result (Unit {0}) why.Refusal → Result ℤ why.Refusal
+abbrev pub value_inside : Cells → Name → Result (Unit {0}) why.WhyRefused → Result ℤ why.WhyRefused
 value_inside s a (Ok there) = element_or_refusal (get s (Implicit a))
 value_inside s a (Err e) = Err e
 
 -- the same, at an index of the parent
-abbrev pub value_within : Cells → Name → Index → Result Name why.Refusal → Result ℤ why.Refusal
+abbrev pub value_within : Cells → Name → Index → Result Name why.WhyRefused → Result ℤ why.WhyRefused
 value_within s a i (Ok parent) = value_inside s a (is_there (get s (In parent i)))
 value_within s a i (Err e) = Err e
 
 -- the same, over the sparse domain d
-abbrev pub value_over : Cells → (a d : Name) → Index → Result (Unit {0}) why.Refusal → Result ℤ why.Refusal
+abbrev pub value_over : Cells → (a d : Name) → Index → Result (Unit {0}) why.WhyRefused → Result ℤ why.WhyRefused
 value_over s a d i (Ok sparse) = value_within s a i (parent_in (get s (Object d)))
 value_over s a d i (Err e) = Err e
 
 -- what stands in the element's cell, or else the implicit value, which arrays over sparse domains have
-abbrev pub element_or_implicit : Cells → (a d : Name) → Kind → Index → Option Value → Result ℤ why.Refusal
+abbrev pub element_or_implicit : Cells → (a d : Name) → Kind → Index → Option Value → Result ℤ why.WhyRefused
 element_or_implicit s a d kind i (Some v) = element_or_refusal (Some v)
 element_or_implicit s a d kind i None = value_over s a d i (has_implicit kind)
 
 -- the element at an index of the type and rank of the array's
-abbrev pub element_at : Cells → (a d : Name) → Kind → Index → Result (Unit {0}) why.Refusal → Result ℤ why.Refusal
+abbrev pub element_at : Cells → (a d : Name) → Kind → Index → Result (Unit {0}) why.WhyRefused → Result ℤ why.WhyRefused
 element_at s a d kind i (Ok fit) = element_or_implicit s a d kind i (get s (Element a i))
 element_at s a d kind i (Err e) = Err e
 
-abbrev pub get_from : Cells → Name → Index → Result (Name × Kind) why.Refusal → Result ℤ why.Refusal
+abbrev pub get_from : Cells → Name → Index → Result (Name × Kind) why.WhyRefused → Result ℤ why.WhyRefused
 get_from s a i (Ok (d, kind)) = element_at s a d kind i (fits kind i)
 get_from s a i (Err e) = Err e
 
 -- the name is an array's, the index fits, and the element is there, or the array has an implicit value at the index
-abbrev pub get_answer : Cells → Name → Index → Result ℤ why.Refusal
+abbrev pub get_answer : Cells → Name → Index → Result ℤ why.WhyRefused
 get_answer s a i = get_from s a i (array_kind (get s (Object a)))
 
-abbrev pub value_answer : Result ℤ why.Refusal → Result Answer Refusal
+abbrev pub value_answer : Result ℤ why.WhyRefused → Result Answer Refusal
 value_answer (Ok x) = Ok (ValueIs x)
 value_answer (Err e) = Err (Refused (plain e))
 
-abbrev pub size_from : Cells → Name → Result DomainKind why.Refusal → Result ℕ why.Refusal
+abbrev pub size_from : Cells → Name → Result DomainKind why.WhyRefused → Result ℕ why.WhyRefused
 size_from s d (Ok kind) = Ok (unwrap_or (size_at s d) 0)
 size_from s d (Err e) = Err e
 
 -- the name is a domain's, and the domain has so many indices
-abbrev pub size_answer : Cells → Name → Result ℕ why.Refusal
+abbrev pub size_answer : Cells → Name → Result ℕ why.WhyRefused
 size_answer s d = size_from s d (domain_kind (get s (Object d)))
 
 -- the count as an answer, or why there is none
-abbrev pub count_answer : Result ℕ why.Refusal → Result Answer Refusal
+abbrev pub count_answer : Result ℕ why.WhyRefused → Result Answer Refusal
 count_answer (Ok n) = Ok (SizeIs n)
 count_answer (Err e) = Err (Refused (plain e))
 

@@ -8,8 +8,8 @@ use Rattle.wb_cells.specs.Schema.{workbook}
 use Rattle.wb_log.specs.Cascades.{DependentsReply, OfNumber}
 use Rattle.wb_log.specs.Past.{Numbered, meant, out_of_force, into_force}
 use Rattle.wb_log.specs.Replies.{EditReply, UndoReply, LastReply, RedoReply, ByNumber}
-use Rattle.wb_log.specs.declared.refusal.Refusal.{Refusal}
-use Rattle.wb_log.specs.declared.refusal.Refusal.TheVariants.{NoMemory}
+use Rattle.wb_edit.specs.declared.refusal.Refusal.{Refusal}
+use Rattle.wb_edit.specs.declared.refusal.Refusal.TheVariants.{NoMemory}
 
 -- Two answers that both fit are equal, where neither is want of memory.
 abbrev pub OneAnswer : {X : Type 0} → (Result X Refusal → Type 0) → Type 0

@@ -2,13 +2,13 @@
 use Rattle.std.specs.Prelude.{◌≡◌, ℕ, zero, suc, ◌+◌, Bool, List, [], ◌∷◌, ◌++◌, map, Option, Some, None, Result, Ok, Err, slice_get, ⊤}
 use Rattle.selective_undo.specs.Edit.{Trace, written}
 use Rattle.selective_undo.specs.History.{traces, IsLegal}
-use Rattle.wb_cells.specs.Cells.{count_of, written_more}
+use Rattle.wb_cells.specs.Cells.{count_of, saturating_add}
 use Rattle.wb_edit.specs.declared.edit.Edit as command
 use Rattle.wb_cells.specs.Schema.{workbook}
 use Rattle.wb_history.specs.declared.restore.RestoreErr.{RestoreErr}
 use Rattle.wb_history.specs.declared.restore.RestoreErr.TheVariants.{NotLegal, NoMemory}
-use Rattle.wb_log.specs.declared.refusal.Refusal.{Refusal}
-use Rattle.wb_log.specs.declared.refusal.Refusal.TheVariants as refusals
+use Rattle.wb_edit.specs.declared.refusal.Refusal.{Refusal}
+use Rattle.wb_edit.specs.declared.refusal.Refusal.TheVariants as refusals
 use Rattle.wb_log.specs.Past.{Numbered, Past, pair_back, meant}
 
 -- why an edit in force is not put in
@@ -37,7 +37,7 @@ cells_written (None ∷ ts) = cells_written ts
 
 -- the count of a history is that of its edits in force, each made once
 abbrev pub IsCounted : Past → Type 0
-IsCounted p = p.writes ≡ written_more 0 (cells_written (traces (meant p.entries)))
+IsCounted p = p.writes ≡ saturating_add 0 (cells_written (traces (meant p.entries)))
 
 -- no history of edits that begin so is legal
 abbrev pub BeginsNone : List Numbered → Type 0

@@ -1,6 +1,6 @@
 ghost use Rattle.std.specs.Prelude.{◌≡◌, ℕ, ◌+◌, ◌-◌, ◌<◌, ◌≤◌, length, take, [], ◌∷◌, ◌++◌, OnOk, OnErr, IfOk, IfErr, Ok, Err, true, false, option_map};
 ghost use Rattle.selective_undo.specs.History.{replay, IsLegal};
-ghost use Rattle.wb_cells.specs.Cells.{written_more};
+ghost use Rattle.wb_cells.specs.Cells.{saturating_add};
 ghost use Rattle.wb_edit.specs.Edits.{meaning, note_of};
 ghost use Rattle.wb_log.specs.Cascades.{DependentsReply, CascadeReply, OfNumber, NoShorter, OthersStay, OtherCellsStay, all_out_of_force, places, set_back};
 ghost use Rattle.wb_log.specs.Past.{meant, out_of_force, into_force, force_of};
@@ -13,14 +13,14 @@ ghost use Rattle.wb_history.specs.Restored.{one_of, numbered_at};
 use crate::locale::{locale_answer, locale_of};
 use crate::note::note_answer;
 use crate::piece::piece_answer;
-use crate::query::{Answer, Query, count_answer, element_of, force_answer, size_of, value_answer};
+use crate::query::{Answer, count_answer, element_of, force_answer, size_of, value_answer};
 use crate::reduction::reduce_answer;
 use std::alloc::Global;
 use std::marker::Model;
 use wb_arrays::Mover;
 use wb_book::Book;
-use wb_edit::{Edit, Note};
-use wb_log::{Index, LentEdit, Record, Refusal, Undoer, steps};
+use wb_edit::{Edit, Note, Query, Refusal};
+use wb_log::{Index, LentEdit, Record, Undoer, steps};
 use wb_range::NoMemory;
 
 /// A workbook, and the edits that made it, each in force or out of force.
@@ -90,7 +90,7 @@ impl History {
     pub fn edit<M: Mover>(&mut self, edit: Edit, mover: &M) -> Result<(u64, usize), Refusal>
         ensures reply { EditReply (meant self.old.entries) (meaning edit) result }
         ensures entries { OnOk result (self.new.entries ≡ self.old.entries ++ record { edit = edit; in_force = true } ∷ []) }
-        ensures writes { IfOk result (λ r. self.new.writes ≡ written_more self.old.writes r.1) }
+        ensures writes { IfOk result (λ r. self.new.writes ≡ saturating_add self.old.writes r.1) }
         ensures err { OnErr result (self.new ≡ self.old) }
     {
         // For the proof: what every edit is, which the entries are to keep.
@@ -104,7 +104,7 @@ impl History {
         ensures entries { OnOk result (self.new.entries ≡ out_of_force (number - 1) self.old.entries) }
         ensures set_back { OnOk result (SetsBack (meant self.old.entries) (number - 1) (meant self.new.entries)) }
         ensures others { OnOk result (LeavesOthers (meant self.old.entries) (number - 1) (meant self.new.entries)) }
-        ensures writes { IfOk result (λ n. self.new.writes ≡ written_more self.old.writes n) }
+        ensures writes { IfOk result (λ n. self.new.writes ≡ saturating_add self.old.writes n) }
         ensures err { OnErr result (self.new ≡ self.old) }
     {
         if number == 0 {
@@ -129,7 +129,7 @@ impl History {
         ensures entries { IfOk result (λ r. self.new.entries ≡ out_of_force (r.0 - 1) self.old.entries) }
         ensures restored { IfOk result (λ r. Restores (meant self.old.entries) (r.0 - 1) (meant self.new.entries)) }
         ensures others { IfOk result (λ r. LeavesOthers (meant self.old.entries) (r.0 - 1) (meant self.new.entries)) }
-        ensures writes { IfOk result (λ r. self.new.writes ≡ written_more self.old.writes r.1) }
+        ensures writes { IfOk result (λ r. self.new.writes ≡ saturating_add self.old.writes r.1) }
         ensures err { OnErr result (self.new ≡ self.old) }
     {
         steps::undo::undo_latest(&mut self.book, &mut self.entries, &mut self.index, mover)
@@ -170,7 +170,7 @@ impl History {
         ensures entries { IfOk result (λ r. self.new.entries ≡ all_out_of_force r.0.items self.old.entries) }
         ensures others { IfOk result (λ r. OthersStay (meant self.old.entries) (places r.0.items) (meant self.new.entries)) }
         ensures cells { IfOk result (λ r. OtherCellsStay (meant self.old.entries) (places r.0.items) (meant self.new.entries)) }
-        ensures writes { IfOk result (λ r. self.new.writes ≡ written_more self.old.writes (set_back (meant self.old.entries) (places r.0.items))) }
+        ensures writes { IfOk result (λ r. self.new.writes ≡ saturating_add self.old.writes (set_back (meant self.old.entries) (places r.0.items))) }
 
         // After a refusal nothing has changed.
         ensures err { OnErr result (self.new ≡ self.old) }
@@ -214,7 +214,7 @@ impl History {
         ensures entries { IfOk result (λ r. self.new.entries ≡ all_out_of_force (take r.0 listed.now) self.old.entries) }
         ensures others { IfOk result (λ r. OthersStay (meant self.old.entries) (places (take r.0 listed.now)) (meant self.new.entries)) }
         ensures cells { IfOk result (λ r. OtherCellsStay (meant self.old.entries) (places (take r.0 listed.now)) (meant self.new.entries)) }
-        ensures writes { IfOk result (λ r. self.new.writes ≡ written_more self.old.writes (set_back (meant self.old.entries) (places (take r.0 listed.now)))) }
+        ensures writes { IfOk result (λ r. self.new.writes ≡ saturating_add self.old.writes (set_back (meant self.old.entries) (places (take r.0 listed.now)))) }
 
         // Without memory nothing has changed.
         ensures err { OnErr result (self.new ≡ self.old) }
@@ -235,7 +235,7 @@ impl History {
         ensures reply { ByNumber (RedoReply (meant self.old.entries)) number result }
         ensures entries { OnOk result (self.new.entries ≡ into_force (number - 1) self.old.entries) }
         ensures in_place { OnOk result (RedoesInPlace (meant self.old.entries) (number - 1) (meant self.new.entries)) }
-        ensures writes { IfOk result (λ n. self.new.writes ≡ written_more self.old.writes n) }
+        ensures writes { IfOk result (λ n. self.new.writes ≡ saturating_add self.old.writes n) }
         ensures err { OnErr result (self.new ≡ self.old) }
     {
         if number == 0 {

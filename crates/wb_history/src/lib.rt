@@ -14,6 +14,5 @@ mod restore;
 
 pub use crate::history::History;
 pub use crate::piece::Piece;
-pub use crate::query::{Answer, Query};
+pub use crate::query::Answer;
 pub use crate::restore::{RestoreErr, put_in};
-pub use wb_log::{LentEdit, Refusal, Undoer};

@@ -9,10 +9,10 @@ ghost use Rattle.wb_history.specs.Pieces.{piece_of, piece_answer, OrNoMemory};
 use crate::query::{Answer, refused};
 use std::alloc::Global;
 use std::marker::Model;
-use wb_book::{AsIndex, Book, Pairs};
-use wb_cells::{AnyIndex, Cell, Name};
-use wb_edit::judgements;
-use wb_log::Refusal;
+use wb_book::Book;
+use wb_cells::{AnyIndex, AsIndex, Cell, Name};
+use wb_edit::{Refusal, judgements};
+use wb_elements::Pairs;
 use wb_range::NoMemory;
 
 /// The elements of an array on one locale, each after its index, ascending by index. Contracts see the list of them.
@@ -99,9 +99,9 @@ fn piece_of(alloc: Global, pairs: Pairs<'_>) -> Result<Piece, NoMemory>
     ensures { IfOk result (λ p. p ≡ lent pairs.entry) }
 {
     let pairs = match pairs {
-        Pairs::Line(pairs) => listed(alloc, pairs)?,
-        Pairs::Plane(pairs) => listed(alloc, pairs)?,
-        Pairs::Solid(pairs) => listed(alloc, pairs)?,
+        Pairs::Rank1(pairs) => listed(alloc, pairs)?,
+        Pairs::Rank2(pairs) => listed(alloc, pairs)?,
+        Pairs::Rank3(pairs) => listed(alloc, pairs)?,
         Pairs::Text(pairs) => listed(alloc, pairs)?,
     };
     Ok(Piece::new(pairs))
@@ -124,7 +124,7 @@ pub(crate) fn piece_answer(
         Err(why) => return Err(refused(why)),
     }
     match book.piece(&array, locale as usize) {
-        None => Err(refused(wb_cells::Refusal::OutOfDomain)),
+        None => Err(refused(wb_cells::WhyRefused::OutOfDomain)),
         Some(pairs) => match piece_of(alloc, pairs) {
             Ok(piece) => Ok(Answer::Piece(piece)),
             Err(_) => Err(Refusal::NoMemory),

@@ -1,76 +1,15 @@
 ghost use Rattle.std.specs.Prelude.{◌≡◌, None, IfOk};
 ghost use Rattle.std.specs.Bool.{Decides};
 ghost use Rattle.wb_edit.specs.Trees.{plain};
-ghost use Rattle.wb_log.specs.declared.refusal.Refusal.TheVariants.{Refused};
+ghost use Rattle.wb_edit.specs.declared.refusal.Refusal.TheVariants.{Refused};
 ghost use Rattle.wb_history.specs.Queries.{element_or_implicit, get_answer, value_answer, size_answer, count_answer, force_answer};
 
-use crate::note::{copied_note, is_same_note};
 use crate::piece::Piece;
 use std::alloc::Global;
-use wb_arrays::Op;
 use wb_book::Book;
 use wb_cells::{AnyIndex, Cell, EditRefusal, Kind, Name};
-use wb_edit::{Note, element_or_refusal, has_implicit, judgements, parent_in};
-use wb_log::Refusal;
+use wb_edit::{Note, Refusal, element_or_refusal, has_implicit, judgements, parent_in};
 use wb_range::NoMemory;
-
-/// A question about the workbook or its history.
-#[derive(Clone, Copy, Debug)]
-pub enum Query {
-    /// The element of an array at an index, or the implicit value of one over a sparse domain at an index of its parent.
-    Get(Name, AnyIndex),
-    /// How many indices a domain has.
-    Size(Name),
-    /// On which locale an index of a domain lies.
-    Where(Name, AnyIndex),
-    /// The elements of an array on a locale, numbered from 0.
-    Piece(Name, u64),
-    /// The sum, the least or the greatest of the elements of an array.
-    Reduce(Name, Op),
-    /// Whether the edit of a number is in force.
-    State(u64),
-    /// The note of the edit of a number.
-    Note(u64),
-}
-
-fn is_same_place(name: &Name, at: &AnyIndex, by: &Name, other: &AnyIndex) -> bool
-    ensures { Decides result ((name.now ≡ by.now) × (at.now ≡ other.now)) }
-{
-    if !name.is_same(by) {
-        return false;
-    }
-    at.is_same(other)
-}
-
-impl Query {
-    /// Whether the queries are equal.
-    pub fn is_same(&self, other: &Query) -> bool
-        ensures { Decides result (self.now ≡ other.now) }
-    {
-        match (self, other) {
-            (Query::Get(array, at), Query::Get(by, index)) => is_same_place(array, at, by, index),
-            (Query::Size(domain), Query::Size(by)) => domain.is_same(by),
-            (Query::Where(domain, at), Query::Where(by, index)) => {
-                is_same_place(domain, at, by, index)
-            }
-            (Query::Piece(array, locale), Query::Piece(by, number)) => {
-                if !array.is_same(by) {
-                    return false;
-                }
-                *locale == *number
-            }
-            (Query::Reduce(array, op), Query::Reduce(by, other)) => {
-                if !array.is_same(by) {
-                    return false;
-                }
-                *op == *other
-            }
-            (Query::State(number), Query::State(by)) => *number == *by,
-            (Query::Note(number), Query::Note(by)) => *number == *by,
-            _ => false,
-        }
-    }
-}
 
 /// What a query is answered.
 #[derive(Debug, Drop)]
@@ -100,7 +39,7 @@ impl Answer {
             Answer::Locale(locale) => Ok(Answer::Locale(*locale)),
             Answer::Piece(piece) => Ok(Answer::Piece(piece.copy(alloc)?)),
             Answer::InForce(in_force) => Ok(Answer::InForce(*in_force)),
-            Answer::Note(note) => Ok(Answer::Note(copied_note(alloc, note)?)),
+            Answer::Note(note) => Ok(Answer::Note(Note::copied(alloc, note.as_ref())?)),
         }
     }
 
@@ -114,7 +53,7 @@ impl Answer {
             (Answer::Locale(locale), Answer::Locale(by)) => *locale == *by,
             (Answer::Piece(piece), Answer::Piece(by)) => piece.is_same(by),
             (Answer::InForce(in_force), Answer::InForce(by)) => *in_force == *by,
-            (Answer::Note(note), Answer::Note(by)) => is_same_note(note, by),
+            (Answer::Note(note), Answer::Note(by)) => Note::are_same(note, by),
             _ => false,
         }
     }
@@ -125,7 +64,7 @@ pub(crate) fn element_of(
     book: &Book,
     array: Name,
     index: AnyIndex,
-) -> Result<i64, wb_cells::Refusal>
+) -> Result<i64, wb_cells::WhyRefused>
     ensures { result ≡ get_answer book.now.cells array index }
 {
     let (domain, kind) = judgements::array_kind(book.get(&Cell::Object(array)))?;
@@ -143,7 +82,7 @@ fn implicit_value(
     domain: Name,
     kind: Kind,
     index: AnyIndex,
-) -> Result<i64, wb_cells::Refusal>
+) -> Result<i64, wb_cells::WhyRefused>
     ensures { result ≡ element_or_implicit book.now.cells array domain kind index None }
 {
     has_implicit(&kind)?;
@@ -153,7 +92,7 @@ fn implicit_value(
 }
 
 /// How many indices a domain has, or why there is none.
-pub(crate) fn size_of(book: &Book, domain: Name) -> Result<usize, wb_cells::Refusal>
+pub(crate) fn size_of(book: &Book, domain: Name) -> Result<usize, wb_cells::WhyRefused>
     ensures { result ≡ size_answer book.now.cells domain }
 {
     judgements::domain_kind(book.get(&Cell::Object(domain)))?;
@@ -161,13 +100,13 @@ pub(crate) fn size_of(book: &Book, domain: Name) -> Result<usize, wb_cells::Refu
 }
 
 /// Why a question has no answer.
-pub(crate) fn refused(why: wb_cells::Refusal) -> Refusal
+pub(crate) fn refused(why: wb_cells::WhyRefused) -> Refusal
     ensures { result ≡ Refused (plain why) }
 {
     Refusal::Refused(EditRefusal { why, at: None })
 }
 
-pub(crate) fn value_answer(found: Result<i64, wb_cells::Refusal>) -> Result<Answer, Refusal>
+pub(crate) fn value_answer(found: Result<i64, wb_cells::WhyRefused>) -> Result<Answer, Refusal>
     ensures { result ≡ value_answer found }
 {
     match found {
@@ -176,7 +115,7 @@ pub(crate) fn value_answer(found: Result<i64, wb_cells::Refusal>) -> Result<Answ
     }
 }
 
-pub(crate) fn count_answer(found: Result<usize, wb_cells::Refusal>) -> Result<Answer, Refusal>
+pub(crate) fn count_answer(found: Result<usize, wb_cells::WhyRefused>) -> Result<Answer, Refusal>
     ensures { result ≡ count_answer found }
 {
     match found {

@@ -8,8 +8,7 @@ use crate::query::{Answer, refused};
 use wb_arrays::{Mover, Op, ReduceErr};
 use wb_book::Book;
 use wb_cells::{Cell, Name};
-use wb_edit::judgements;
-use wb_log::Refusal;
+use wb_edit::{Refusal, judgements};
 
 // What a workbook makes of the elements as an answer.
 fn made_answer(made: Result<i64, ReduceErr>) -> Result<Answer, Refusal>
@@ -17,8 +16,8 @@ fn made_answer(made: Result<i64, ReduceErr>) -> Result<Answer, Refusal>
 {
     match made {
         Ok(value) => Ok(Answer::Value(value)),
-        Err(ReduceErr::Empty) => Err(refused(wb_cells::Refusal::Empty)),
-        Err(ReduceErr::Overflow) => Err(refused(wb_cells::Refusal::Overflow)),
+        Err(ReduceErr::Empty) => Err(refused(wb_cells::WhyRefused::Empty)),
+        Err(ReduceErr::Overflow) => Err(refused(wb_cells::WhyRefused::Overflow)),
         Err(ReduceErr::NoMemory) => Err(Refusal::NoMemory),
     }
 }

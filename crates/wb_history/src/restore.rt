@@ -6,8 +6,7 @@ use crate::history::History;
 use std::alloc::Global;
 use thiserror::Error;
 use wb_arrays::Mover;
-use wb_edit::Edit;
-use wb_log::Refusal;
+use wb_edit::{Edit, Refusal};
 
 /// Why a list of edits gives no history.
 #[derive(Clone, Copy, Debug, PartialEq, Eq, Error)]

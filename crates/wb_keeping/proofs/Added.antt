@@ -4,18 +4,18 @@ use Rattle.std.proofs.Common.{subst, arith, append-nil, append_assoc}
 use Rattle.wb_lines.specs.Lines.{IsUnbroken}
 use Rattle.wb_edit.specs.declared.edit.Edit.{Edit}
 use Rattle.wb_history.specs.Past.{Past}
-use Rattle.wb_log.specs.declared.refusal.Refusal.{Refusal}
-use Rattle.wb_log.specs.declared.refusal.Refusal.TheVariants.{NoMemory}
-use Rattle.wb_protocol.specs.Machine.{Changes, Step, StepIfRead, NothingDone}
-use Rattle.wb_protocol.specs.Replies.{reply_of}
-use Rattle.wb_protocol.specs.Requests.{request}
-use Rattle.wb_protocol.specs.declared.replies.reply.Reply.{Reply}
-use Rattle.wb_protocol.specs.declared.replies.reply.Reply.TheVariants.{Edited, Refused}
-use Rattle.wb_protocol.specs.declared.requests.request.Request.{Request}
-use Rattle.wb_protocol.specs.declared.requests.request.Request.TheVariants.{Change, Undo}
-use Rattle.wb_protocol.proofs.HistoryTexts.Unbroken.{unbroken_value}
-use Rattle.wb_protocol.specs.Wire.Encoded.{request_data, request_line}
-use Rattle.wb_protocol.specs.Wire.Proper.{IsProperRequest}
+use Rattle.wb_edit.specs.declared.refusal.Refusal.{Refusal}
+use Rattle.wb_edit.specs.declared.refusal.Refusal.TheVariants.{NoMemory}
+use Rattle.wb_requests.specs.Requests.{request}
+use Rattle.wb_requests.specs.declared.requests.request.Request.{Request}
+use Rattle.wb_requests.specs.declared.requests.request.Request.TheVariants.{Change, Undo}
+use Rattle.wb_requests.specs.Wire.Encoded.{request_data, request_line}
+use Rattle.wb_requests.specs.Wire.Proper.{IsProperRequest}
+use Rattle.wb_machine.specs.Machine.{Changes, Step, StepIfRead, NothingDone}
+use Rattle.wb_machine.specs.Replies.{reply_of}
+use Rattle.wb_machine.specs.declared.replies.reply.Reply.{Reply}
+use Rattle.wb_machine.specs.declared.replies.reply.Reply.TheVariants.{Edited, Refused}
+use Rattle.wb_machine.proofs.HistoryTexts.Unbroken.{unbroken_value}
 use Rattle.wb_keeping.specs.Granting.Granting.{AreLinesOf, AddsLinesOf, AddsIfEdited, Answers, IsLineOf, IsOther, changes_made, undos_made, undos_of}
 
 -- ---- one line

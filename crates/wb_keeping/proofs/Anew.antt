@@ -2,7 +2,7 @@
 use Rattle.std.proofs.Common.{◌≡◌, ◌≢◌, inr, ⊎_elim, ℕ, List, [], ◌∷◌, ◌++◌, refl, sym, ◌∙◌, ap, subst, arith}
 use Rattle.std.proofs.lemmas.Bool.Decides.{nat_tests}
 use Rattle.selective_undo.specs.History.{traces}
-use Rattle.wb_cells.specs.Cells.{written_more}
+use Rattle.wb_cells.specs.Cells.{saturating_add}
 use Rattle.wb_keep.specs.Disk.Device.{Only, LeavesOnly}
 use Rattle.wb_keep.specs.Keep.{IsOldOrNew}
 use Rattle.wb_keep.specs.Lines.{onto, lines_of, recovered, IsAtRest, HasHeader}
@@ -27,7 +27,7 @@ one_line (byte ∷ line) unbroken = no_feed byte (line ++ 10 ∷ []) unbroken.0 
 
 -- with these edits, each in force made once
 abbrev pub made_once : List Numbered → Past
-made_once es = record { entries = es; writes = written_more 0 (cells_written (traces (meant es))) }
+made_once es = record { entries = es; writes = saturating_add 0 (cells_written (traces (meant es))) }
 
 module _ (h : Past) (line : List ℕ) (begins : (q : Past) → q.entries ≡ h.entries → IsCounted q → Begins line q) where
   pub begun : (file : List ℕ) → recovered file ≡ line ∷ [] → HasHeader file → HasEdits h.entries file

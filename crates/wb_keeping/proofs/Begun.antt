@@ -8,8 +8,8 @@ use Rattle.serde_json.specs.Written.{compact_text}
 use Rattle.wb_lines.specs.Lines.{IsUnbroken}
 use Rattle.wb_history.specs.Past.{Past}
 use Rattle.wb_history.specs.Restored.{IsCounted}
-use Rattle.wb_protocol.specs.Histories.Text.{history_text, IsHistory, IsNoHistory}
-use Rattle.wb_protocol.proofs.HistoryTexts.Unbroken.{unbroken_value}
+use Rattle.wb_machine.specs.Histories.Text.{history_text, IsHistory, IsNoHistory}
+use Rattle.wb_machine.proofs.HistoryTexts.Unbroken.{unbroken_value}
 use Rattle.wb_keeping.specs.Granting.Granting.{Begins, resume_data}
 
 some_same : {A : Type 0} (a b : A) → Some a ≡ Some b → a ≡ b

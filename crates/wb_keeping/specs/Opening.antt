@@ -5,7 +5,7 @@ use Rattle.wb_keep.specs.declared.disk.device.Device as Device
 use Rattle.wb_keeping.specs.Granting.Granting.{Begins}
 use Rattle.wb_keep.specs.Lines.{recovered, is_ours, HasHeader}
 use Rattle.wb_lines.specs.Lines.{IsUnbroken}
-use Rattle.wb_protocol.specs.Histories.Text.{history_text}
+use Rattle.wb_machine.specs.Histories.Text.{history_text}
 use Rattle.wb_keeping.specs.declared.opening.BeginErr.{BeginErr}
 use Rattle.wb_keeping.specs.declared.opening.BeginErr.TheVariants as errs
 use Rattle.wb_keeping.specs.declared.beginning.Opening.{Opening}

@@ -1,20 +1,21 @@
 // A line answered, with the changes that it made.
 ghost use Rattle.std.specs.Prelude.{◌≡◌, ◌⊎◌, ◌++◌, ℕ, List, Ok, IfOk};
 ghost use Rattle.wb_keeping.specs.Granting.Granting.{Answers, AddsLinesOf, changes_made, IsOther};
-ghost use Rattle.wb_protocol.specs.Machine.{Step, StepIfRead, NothingDone};
-ghost use Rattle.wb_protocol.specs.Requests.{request};
-ghost use Rattle.wb_protocol.specs.declared.requests.request.Request.TheVariants.{Change};
-ghost use Rattle.wb_protocol.specs.Wire.Proper.{IsProperRequest};
+ghost use Rattle.wb_requests.specs.Requests.{request};
+ghost use Rattle.wb_requests.specs.declared.requests.request.Request.TheVariants.{Change};
+ghost use Rattle.wb_requests.specs.Wire.Proper.{IsProperRequest};
+ghost use Rattle.wb_machine.specs.Machine.{Step, StepIfRead, NothingDone};
 
 use crate::lines::{push_edit, push_made};
 use crate::stepping::step;
 use std::alloc::{AllocError, Global};
 use wb_arrays::Mover;
-use wb_edit::Edit;
-use wb_history::{History, Refusal};
+use wb_edit::{Edit, Refusal};
+use wb_history::History;
 use wb_kept::Changes;
-use wb_protocol::wire::edit_text;
-use wb_protocol::{Reply, Request, read_request, reply_text};
+use wb_machine::{Reply, reply_text};
+use wb_requests::wire::edit_text;
+use wb_requests::{Request, read_request};
 
 /// Answers an edit, and adds its line, which is written before the edit is given away.
 fn answer_edit<M: Mover>(

@@ -8,7 +8,7 @@ ghost use Rattle.serde_json.specs.Written.{compact_text};
 ghost use Rattle.wb_lines.specs.Lines.{IsUnbroken};
 ghost use Rattle.wb_history.specs.Past.{Past};
 ghost use Rattle.wb_history.specs.Restored.{IsCounted};
-ghost use Rattle.wb_protocol.specs.Histories.Text.{history_text, AreAsked, IsHistory, IsNoHistory};
+ghost use Rattle.wb_machine.specs.Histories.Text.{history_text, AreAsked, IsHistory, IsNoHistory};
 ghost use Rattle.wb_keeping.specs.Granting.Granting.{Begins, resume_data};
 ghost use Rattle.wb_keeping.specs.Opening.{OpensWith};
 
@@ -16,7 +16,7 @@ use serde_json::{Category, Value, json};
 use std::alloc::{AllocError, Global};
 use wb_arrays::Mover;
 use wb_history::History;
-use wb_protocol::histories::{HistoryErr, print_history, read_history};
+use wb_machine::histories::{HistoryErr, print_history, read_history};
 
 /// The object of `resume` with a text.
 fn resume_value(alloc: Global, text: &str) -> Result<Value, AllocError>

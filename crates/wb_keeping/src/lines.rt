@@ -2,12 +2,13 @@
 ghost use Rattle.std.specs.Prelude.{[], ◌∷◌, OnOk};
 ghost use Rattle.wb_lines.specs.Lines.{IsUnbroken};
 ghost use Rattle.wb_keeping.specs.Granting.Granting.{AddsIfEdited, AddsLinesOf, undos_made, undos_of};
-ghost use Rattle.wb_protocol.specs.Wire.Proper.{IsProperRequest};
+ghost use Rattle.wb_requests.specs.Wire.Proper.{IsProperRequest};
 
 use std::alloc::{AllocError, Global};
 use wb_kept::Changes;
-use wb_protocol::wire::request_text;
-use wb_protocol::{EditNumbers, Reply, Request};
+use wb_machine::{EditNumbers, Reply};
+use wb_requests::Request;
+use wb_requests::wire::request_text;
 
 /// Adds the line, where the reply tells of a new edit.
 pub fn push_edit(changes: &mut Changes, reply: &Reply, line: &[u8]) -> Result<(), AllocError>

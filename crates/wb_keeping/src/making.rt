@@ -7,8 +7,10 @@ use crate::beginning::begin;
 use crate::stepping::step;
 use std::alloc::{AllocError, Global};
 use wb_arrays::Mover;
-use wb_history::{History, Refusal};
-use wb_protocol::{Reply, Request, read_request};
+use wb_edit::Refusal;
+use wb_history::History;
+use wb_machine::Reply;
+use wb_requests::{Request, read_request};
 
 /// Whether a request is one that a log has.
 fn is_logged(request: &Request) -> bool

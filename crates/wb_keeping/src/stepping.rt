@@ -1,10 +1,11 @@
 // The one call of the machine of requests and replies.
-ghost use Rattle.wb_protocol.specs.Machine.{Step};
+ghost use Rattle.wb_machine.specs.Machine.{Step};
 
 use std::alloc::Global;
 use wb_arrays::Mover;
 use wb_history::History;
-use wb_protocol::{Reply, Request, answer_request};
+use wb_machine::{Reply, answer_request};
+use wb_requests::Request;
 
 /// Answers a request.
 pub(crate) fn step<M: Mover>(

@@ -1,26 +1,21 @@
 -- A turn while it is answered, and as it ends.
-use Rattle.std.proofs.Common.{◌≡◌, inl, inr, ⊎_elim, ◌+◌, ℕ, List, [], ◌∷◌, ◌++◌, length, refl, sym, ap, ◌∙◌, subst, append_assoc, append-nil, length-append, arith}
+use Rattle.std.proofs.Common.{◌≡◌, inl, inr, ⊎_elim, ◌+◌, ◌<◌, ◌≤◌, ℕ, List, [], ◌∷◌, ◌++◌, length, refl, sym, ap, ◌∙◌, subst, append_assoc, append-nil, length-append, arith}
 use Rattle.wb_keep.specs.Disk.Device.{LeavesOnly}
-use Rattle.wb_keep.proofs.Disks.Moments.{started}
 use Rattle.wb_keep.specs.Lines.{recovered}
 use Rattle.wb_keep.specs.Keep.{IsSettled, IsBeforeOrAfter}
 use Rattle.wb_keep.specs.declared.keep.LineLog.{LineLog}
 use Rattle.wb_lines.specs.Lines.{ended}
 use Rattle.wb_lines.specs.Reading.{Reading}
 use Rattle.wb_lines.specs.Turns.{TakesLines}
+use Rattle.wb_lines.specs.declared.machine.Stop.{Stop}
+use Rattle.wb_lines.specs.declared.machine.Stop.TheVariants.{WriteFault, NoMemory, Other}
 use Rattle.wb_lines.proofs.Taking.{takes_more}
 use Rattle.wb_kept.specs.Runs.{Step, AnswersLine, Run, lines_asked, replies_of, changes_of}
-use Rattle.wb_kept.specs.Turning.{HasAllOrNone, Turned, IsCommitted}
+use Rattle.wb_kept.specs.Sessions.{IsFront}
+use Rattle.wb_kept.specs.Turning.{AnswersTurn, HasFrom, IsCommitted, Takes, Goes, StopsBy, Halts}
+use Rattle.wb_kept.specs.TurnLaws.{run_append, asked-append, replies-append, changes-append, has_all, implied, unmoved}
 use Rattle.wb_kept.specs.declared.kept.Kept.{Kept}
-use Rattle.wb_kept.proofs.Steps.{run_append, asked-append, replies-append, changes-append}
-
-pub implied : {D : Type 0} (moment : D → ℕ) (left_since : D → ℕ → List ℕ → Type 0) (old new : D) (P Q : List ℕ → Type 0)
-    → ((c : List ℕ) → P c → Q c) → LeavesOnly moment left_since old new P → LeavesOnly moment left_since old new Q
-implied moment left_since old new P Q f h = record {
-  later = h.later;
-  each = λ c left. f c (h.each c left);
-  before = λ t c le left. ⊎_elim inl (λ p. inr (f c p)) (h.before t c le left);
-}
+use Rattle.wb_kept.specs.declared.session.DiskFault.{DiskFault}
 
 module _ {S : Type 0} (answers : S → List ℕ → List ℕ → List (List ℕ) → S → Type 0) where
   -- lines that lay ahead, as far as they were answered
@@ -46,19 +41,9 @@ module _ {S : Type 0} (answers : S → List ℕ → List ℕ → List (List ℕ)
   )
 
   -- the first line and those behind it were answered
-  pub record Whole (old now : S) (first : List ℕ) (buffer rest : Reading) (replies : List ℕ) (changes : List (List ℕ)) (count : ℕ) : Type 0 where
-    pub steps : List Step
-    pub more : List (List ℕ)
-    pub takes : TakesLines buffer rest more
-    pub asked : lines_asked steps ≡ first ∷ more
-    pub run : Run answers old steps now
-    pub told : replies ≡ replies_of steps
-    pub made : changes ≡ changes_of steps
-    pub counted : count ≡ length steps
-
   pub whole : (old mid now : S) (buffer rest : Reading) (r0 r1 r2 : List ℕ) (c0 c1 c2 : List (List ℕ)) (count : ℕ) (step : Step)
       → r0 ≡ [] → c0 ≡ [] → AnswersLine answers old step mid → r1 ≡ r0 ++ ended step.reply → c1 ≡ c0 ++ step.changes
-      → Ahead mid now buffer rest r1 r2 c1 c2 count → Whole old now step.line buffer rest r2 c2 (count + 1)
+      → Ahead mid now buffer rest r1 r2 c1 c2 count → AnswersTurn answers old now step.line buffer rest r2 c2 (count + 1)
   whole old mid now buffer rest r0 r1 r2 c0 c1 c2 count step e0 f0 a e1 f1 (steps, t, r, e, f, n) = record {
     steps = step ∷ steps;
     more = lines_asked steps;
@@ -70,68 +55,98 @@ module _ {S : Type 0} (answers : S → List ℕ → List ℕ → List (List ℕ)
     counted = omega (arith, n);
   }
 
-  -- the lines of a slice, as far as they were answered
-  abbrev pub SoFar : (old now : S) (asked : List (List ℕ)) (told : List ℕ) (made : List (List ℕ)) → Type 0
-  SoFar old now asked told made = (steps : List Step) × (lines_asked steps ≡ asked) × Run answers old steps now × (told ≡ replies_of steps) × (made ≡ changes_of steps)
+module _ {S D : Type 0} (answers : S → List ℕ → List ℕ → List (List ℕ) → S → Type 0) (seen : D → List ℕ) (may_leave : D → List ℕ → Type 0) (moment : D → ℕ)
+    (left_since : D → ℕ → List ℕ → Type 0) (faults : D → ℕ) where
+  abbrev stops_by : Stop DiskFault → Kept S D → Kept S D → List Step → S → List ℕ → ℕ → Type 0
+  stops_by = StopsBy answers seen may_leave moment left_since faults
 
-  pub so_far_more : (old mid now : S) (asked more : List (List ℕ)) (r1 r2 : List ℕ) (c1 c2 : List (List ℕ)) (step : Step)
-      → more ≡ asked ++ step.line ∷ [] → SoFar old mid asked r1 c1 → AnswersLine answers mid step now → r2 ≡ r1 ++ ended step.reply → c2 ≡ c1 ++ step.changes
-      → SoFar old now more r2 c2
-  so_far_more old mid now asked more r1 r2 c1 c2 step m (steps, l, r, e, f) a h k = (
-    steps ++ step ∷ [],
-    asked-append steps (step ∷ []) ∙ ap (λ (x : List (List ℕ)). x ++ step.line ∷ []) l ∙ sym m,
-    run_append answers old mid now steps (step ∷ []) r (now, a, refl),
-    h ∙ ap (λ (x : List ℕ). x ++ ended step.reply) e ∙ ap (λ (x : List ℕ). replies_of steps ++ x) (sym (append-nil (ended step.reply)))
-        ∙ sym (replies-append steps (step ∷ [])),
-    k ∙ ap (λ (x : List (List ℕ)). x ++ step.changes) f ∙ ap (λ (x : List (List ℕ)). changes_of steps ++ x) (sym (append-nil step.changes))
-        ∙ sym (changes-append steps (step ∷ [])),
-  )
+  abbrev halts : Stop DiskFault → Kept S D → List (List ℕ) → List ℕ → ℕ → Kept S D → Type 0
+  halts = Halts answers seen may_leave moment left_since faults
 
-  module _ {D : Type 0} (seen : D → List ℕ) (may_leave : D → List ℕ → Type 0) (moment : D → ℕ) (left_since : D → ℕ → List ℕ → Type 0) where
-    -- no call was made
-    pub unmoved : ((file : D) (c : List ℕ) → left_since file (moment file) c → may_leave file c) → (log log' : LineLog D) (P : List ℕ → Type 0)
-        → log' ≡ log → IsSettled seen may_leave log → ((c : List ℕ) → recovered c ≡ recovered (seen log.device) → P c)
-        → LeavesOnly moment left_since log.device log'.device P
-    unmoved only_now log log' P e s f = subst (λ (l : LineLog D). LeavesOnly moment left_since log.device l.device P) (sym e)
-        (started moment left_since log.device P (λ c left. f c (ap recovered (s.durable c (only_now log.device c left)))))
-
-    -- no line was answered, or it does not count
-    pub turned_none : ((file : D) (c : List ℕ) → left_since file (moment file) c → may_leave file c) → (old new : Kept S D) (first : List ℕ) (buffer rest : Reading)
-        (more : List (List ℕ)) → TakesLines buffer rest more → new.log ≡ old.log → IsSettled seen may_leave old.log
-        → Turned answers seen moment left_since old new first buffer rest [] old.state
-    turned_none only_now old new first buffer rest more t e s = record {
-      more = more;
-      takes = t;
-      front = (first ∷ more, refl);
-      run = refl;
-      moments = unmoved only_now old.log new.log (HasAllOrNone (recovered (seen old.log.device)) []) e s (λ c h. inl h);
-    }
-
-    module _ (old mid new : Kept S D) (first : List ℕ) (buffer rest : Reading) (replies : List ℕ) (changes : List (List ℕ)) (count : ℕ)
-        (same : mid.log ≡ old.log) (w : Whole old.state mid.state first buffer rest replies changes count) where
-      all_or_none : (file : List ℕ) → IsBeforeOrAfter (recovered (seen mid.log.device)) changes file → HasAllOrNone (recovered (seen old.log.device)) (changes_of w.steps) file
-      all_or_none file h =
-          let before : recovered (seen mid.log.device) ≡ recovered (seen old.log.device) = ap (λ (l : LineLog D). recovered (seen l.device)) same in
-          ⊎_elim (λ b. inl (b ∙ before))
-          (λ a. inr (a ∙ ap (λ (ls : List (List ℕ)). ls ++ changes) before ∙ ap (λ (ls : List (List ℕ)). recovered (seen old.log.device) ++ ls) w.made)) h.lines
-
-      pub turned : LeavesOnly moment left_since mid.log.device new.log.device (IsBeforeOrAfter (recovered (seen mid.log.device)) changes)
-          → Turned answers seen moment left_since old new first buffer rest w.steps mid.state
-      turned m = record {
-        more = w.more;
-        takes = w.takes;
-        front = ([], sym w.asked ∙ sym (append-nil (lines_asked w.steps)));
-        run = w.run;
-        moments = implied moment left_since old.log.device new.log.device (IsBeforeOrAfter (recovered (seen mid.log.device)) changes)
-            (HasAllOrNone (recovered (seen old.log.device)) (changes_of w.steps)) all_or_none
-            (subst (λ (l : LineLog D). LeavesOnly moment left_since l.device new.log.device (IsBeforeOrAfter (recovered (seen mid.log.device)) changes)) same m);
+  -- no line was answered, or what was does not count
+  pub nothing_kept : ((file : D) (c : List ℕ) → left_since file (moment file) c → may_leave file c) → (old new : Kept S D) (asked : List (List ℕ))
+      → new.log ≡ old.log → IsSettled seen may_leave old.log → halts NoMemory old asked [] 0 new
+  nothing_kept only_now old new asked same settled =
+      let before = recovered (seen old.log.device) in
+      let as_before : (c : List ℕ) → recovered c ≡ before → HasFrom before [] 0 c = λ c h. (0, omega arith, omega arith, h ∙ sym (append-nil before)) in
+      record {
+        steps = [];
+        last = old.state;
+        front = (asked, refl);
+        takes = record {
+          run = refl;
+          moments = unmoved moment left_since seen may_leave only_now old.log new.log (HasFrom before [] 0) same settled as_before;
+          later = omega (arith, ap (λ (l : LineLog D). faults l.device) same);
+        };
+        few = omega arith;
+        at_least = λ c left. as_before c (ap recovered (settled.durable c (subst (λ (l : LineLog D). may_leave l.device c) same left)));
+        stops = refl;
       }
 
-      pub committed : IsSettled seen may_leave new.log → recovered (seen new.log.device) ≡ recovered (seen mid.log.device) ++ changes → new.state ≡ mid.state
-          → IsCommitted seen may_leave old new w.steps mid.state count
-      committed s e f = record {
-        state = f;
-        settled = s;
-        lines = e ∙ ap (λ (l : LineLog D). recovered (seen l.device) ++ changes) same ∙ ap (λ (ls : List (List ℕ)). recovered (seen old.log.device) ++ ls) w.made;
-        counted = w.counted;
+  -- the lines of a turn were answered, and all their changes are in the file or none
+  module _ (old mid new : Kept S D) (first : List ℕ) (buffer rest : Reading) (replies : List ℕ) (changes : List (List ℕ)) (count : ℕ)
+      (same : mid.log ≡ old.log) (w : AnswersTurn answers old.state mid.state first buffer rest replies changes count)
+      (moments : LeavesOnly moment left_since mid.log.device new.log.device (IsBeforeOrAfter (recovered (seen mid.log.device)) changes))
+      (later : faults mid.log.device ≤ faults new.log.device) where
+    lines_behind : (ls : List (List ℕ)) → ls ≡ recovered (seen mid.log.device) ++ changes → ls ≡ recovered (seen old.log.device) ++ changes_of w.steps
+    lines_behind ls e = e ∙ ap (λ (l : LineLog D). recovered (seen l.device) ++ changes) same
+        ∙ ap (λ (cs : List (List ℕ)). recovered (seen old.log.device) ++ cs) w.made
+
+    all_or_none : (file : List ℕ) → IsBeforeOrAfter (recovered (seen mid.log.device)) changes file → HasFrom (recovered (seen old.log.device)) w.steps 0 file
+    all_or_none file h =
+        let before = recovered (seen old.log.device) in
+        ⊎_elim
+        (λ b. (0, omega arith, omega arith, b ∙ ap (λ (l : LineLog D). recovered (seen l.device)) same ∙ sym (append-nil before)))
+        (λ a. let all = has_all before w.steps file (lines_behind (recovered file) a) in (all.0, omega arith, all.2, all.3))
+        h.lines
+
+    taken : Takes answers seen may_leave moment left_since faults old new w.steps mid.state
+    taken = record {
+      run = w.run;
+      moments = implied moment left_since old.log.device new.log.device (IsBeforeOrAfter (recovered (seen mid.log.device)) changes)
+          (HasFrom (recovered (seen old.log.device)) w.steps 0) all_or_none
+          (subst (λ (l : LineLog D). LeavesOnly moment left_since l.device new.log.device (IsBeforeOrAfter (recovered (seen mid.log.device)) changes)) same moments);
+      later = omega (arith, later, ap (λ (l : LineLog D). faults l.device) same);
+    }
+
+    -- of no reply anything was given out
+    pub turn_lost : ((file : D) (m : ℕ) (c : List ℕ) → m ≤ moment file → may_leave file c → left_since file m c) → (stop : Stop DiskFault)
+        → stops_by stop old new w.steps mid.state [] 0 → halts stop old (first ∷ w.more) [] 0 new
+    turn_lost counts_now stop k = record {
+      steps = w.steps;
+      last = mid.state;
+      front = ([], sym w.asked ∙ sym (append-nil (lines_asked w.steps)));
+      takes = taken;
+      few = omega arith;
+      at_least = λ c left. all_or_none c (moments.each c (counts_now new.log.device (moment mid.log.device) c moments.later left));
+      stops = k;
+    }
+
+    -- the changes are on the disk
+    module _ (settled : IsSettled seen may_leave new.log) (lines : recovered (seen new.log.device) ≡ recovered (seen mid.log.device) ++ changes)
+        (state : new.state ≡ mid.state) where
+      committed : IsCommitted answers seen may_leave moment left_since faults old new w.steps mid.state count
+      committed = record { state = state; settled = settled; lines = lines_behind (recovered (seen new.log.device)) lines; counted = w.counted }
+
+      pub turn_goes : (text : List ℕ) → text ≡ replies → Goes answers seen may_leave moment left_since faults old (first ∷ w.more) text count new
+      turn_goes text e = record {
+        steps = w.steps;
+        all = sym w.asked;
+        takes = subst (λ s. Takes answers seen may_leave moment left_since faults old new w.steps s) (sym state) taken;
+        kept = subst (λ s. IsCommitted answers seen may_leave moment left_since faults old new w.steps s count) (sym state) committed;
+        given = e ∙ w.told;
+      }
+
+      -- and of the replies a front was given out
+      pub turn_unsent : (text given : List ℕ) → given ≡ replies → IsFront text given → halts WriteFault old (first ∷ w.more) text count new
+      turn_unsent text given e f = record {
+        steps = w.steps;
+        last = mid.state;
+        front = ([], sym w.asked ∙ sym (append-nil (lines_asked w.steps)));
+        takes = taken;
+        few = omega (arith, w.counted);
+        at_least = λ c left. subst (λ (n : ℕ). HasFrom (recovered (seen old.log.device)) w.steps n c) (sym w.counted)
+            (has_all (recovered (seen old.log.device)) w.steps c
+            (lines_behind (recovered c) (ap recovered (settled.durable c left) ∙ lines)));
+        stops = (committed, (f.0, sym w.told ∙ sym e ∙ f.1));
       }

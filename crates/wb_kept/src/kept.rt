@@ -15,9 +15,7 @@ use crate::machine::Machine;
 use std::alloc::{AllocError, Global};
 use wb_keep::disk::Device;
 use wb_keep::{AppendErr, LineLog, OpenErr};
-use wb_lines::Line;
-
-const TOO_LONG: &[u8] = b"{\"error\":\"E91\",\"name\":\"line-too-long\"}";
+use wb_lines::{Line, reply_to_too_long};
 
 /// A state, and the log of all changes that led to it.
 #[derive(Drop)]
@@ -183,7 +181,7 @@ fn reply_to<M: Machine<S>, S, F: Fn(&mut S, &[u8], &mut Changes) -> Result<Vec<u
         × (changes.new ≡ changes.old ++ made)) }
 {
     match line {
-        Line::TooLong => Vec::from_slice(alloc, TOO_LONG),
+        Line::TooLong => reply_to_too_long(alloc),
         _ => answer(state, bytes, changes),
     }
 }

@@ -1,25 +1,25 @@
 //! A session whose replies are given out only when their changes are kept.
-ghost use Rattle.std.specs.Prelude.{◌≡◌, ◌≢◌, ◌⊎◌, ◌<◌, ◌≤◌, ℕ, List, [], ◌∷◌, ◌++◌, length, take, true, IfOk, IfErr, OnOk, OnErr, IsErrOf};
-ghost use Rattle.std.specs.Io.KnownBytes.{Appends, Consumes, Keeps};
+ghost use Rattle.std.specs.Prelude.{◌≡◌, ◌<◌, ◌≤◌, ℕ, List, [], ◌∷◌, ◌++◌, length, true, IfOk, OnOk, OnErr};
+ghost use Rattle.std.specs.Io.KnownBytes.{Appends};
 ghost use Rattle.wb_keep.specs.Lines.{recovered};
 ghost use Rattle.wb_keep.specs.Keep.{IsSettled};
-ghost use Rattle.wb_lines.specs.Lines.{BeginsWithLine};
 ghost use Rattle.wb_lines.specs.Reading.{IsText};
 ghost use Rattle.wb_lines.specs.Turns.{TakesLines};
 ghost use Rattle.wb_kept.specs.Runs.{Step, Run, lines_asked, replies_of, changes_of};
 ghost use Rattle.wb_kept.specs.Answering.{AnswersBy};
 ghost use Rattle.wb_kept.specs.Keeping.{IsKept};
 ghost use Rattle.wb_kept.specs.Sessions.{IsFront, Session, ReadsUntil, WritesUntil, KeepsUntil};
-ghost use Rattle.wb_kept.specs.Turning.{Turned, IsCommitted, AnswersEach, Halts};
+ghost use Rattle.wb_kept.specs.Turning.{AnswersTurn};
 
 use crate::changes::Changes;
 use crate::kept::{Acknowledged, Kept, Turn};
 use crate::machine::Machine;
 use std::alloc::{AllocError, Global};
+use std::marker::PhantomData;
 use wb_keep::disk::Device;
 use wb_keep::{AppendErr, LineLog};
 use wb_lines::{
-    Hears, Line, LineBuffer, LineFault, NothingHeld, Sends, WriteFault, next_line, send,
+    Hears, Line, LineBuffer, NothingHeld, Sends, SessionEnd, Stop, Turns, WriteFault, send, serve,
 };
 
 // Behind the first line of a turn come at most so many.
@@ -42,13 +42,9 @@ pub enum KeptEnd {
     DiskFault(u64),
 }
 
-/// Why a turn is not served whole.
+/// The file failed, so that a turn can't be kept.
 #[derive(Clone, Copy)]
-pub(crate) enum Stop {
-    WriteFault,
-    NoMemory,
-    DiskFault,
-}
+struct DiskFault;
 
 /// Answers the lines that lie ahead with their ends, up to the limit of a turn. Says how many.
 fn answer_ahead<
@@ -83,6 +79,34 @@ fn answer_ahead<
     Ok(AHEAD_LIMIT)
 }
 
+/// Answers the line that was read last and those that lie ahead, up to the limit of a turn. Says how many.
+fn answer_turn<
+    M: Machine<S>,
+    S,
+    D: Device,
+    F: Fn(&mut S, &[u8], &mut Changes) -> Result<Vec<u8>, AllocError>,
+>(
+    alloc: Global,
+    answer: &F,
+    kept: &mut Kept<S, D>,
+    buffer: &mut LineBuffer,
+    line: Line,
+    turn: &mut Turn,
+) -> Result<u64, AllocError>
+    requires callable { F.IsAlwaysCallable answer.now }
+    requires answers { AnswersBy F.Fn answer.now M.answers }
+    requires text { (text : List ℕ) × IsText line buffer.old.line text }
+    requires empty { (turn.old.replies.items ≡ []) × (turn.old.changes ≡ []) }
+    ensures ok { IfOk result (λ count. (first : List ℕ) → IsText line buffer.old.line first
+        → AnswersTurn M.answers kept.old.state kept.new.state first buffer.old buffer.new turn.new.replies.items turn.new.changes count) }
+    ensures taken { (more : List (List ℕ)) × TakesLines buffer.old buffer.new more }
+    ensures log { kept.new.log ≡ kept.old.log }
+{
+    kept.answer::<M, F>(alloc, answer, line, buffer.line(), turn)?;
+    let ahead = answer_ahead::<M, S, D, F>(alloc, answer, kept, buffer, turn)?;
+    Ok(ahead + 1)
+}
+
 /// Gives replies out. It is the only write of a session, and then the changes that they tell of are on the disk, the last
 /// in the log.
 fn give_out<D: Device, W: Sends<NothingHeld>>(
@@ -102,88 +126,64 @@ fn give_out<D: Device, W: Sends<NothingHeld>>(
     send(writer, &NothingHeld, acknowledged.replies())
 }
 
-/// Answers the line that was read last and those that lie ahead, keeps the changes, and then gives the replies out.
-fn serve_turn<
+// Turns of the lines that lie ahead: they are answered, their changes kept, and then their replies given out.
+#[derive(Drop)]
+struct KeptTurns<'a, M, F> {
+    alloc: Global,
+    answer: &'a F,
+    of: PhantomData<M>,
+}
+
+impl<
+    'a,
     M: Machine<S>,
     S,
     D: Device,
     F: Fn(&mut S, &[u8], &mut Changes) -> Result<Vec<u8>, AllocError>,
     W: Sends<NothingHeld>,
->(
-    alloc: Global,
-    answer: &F,
-    kept: &mut Kept<S, D>,
-    buffer: &mut LineBuffer,
-    line: Line,
-    writer: &mut W,
-) -> Result<u64, (u64, Stop)>
-    // `answer` answers as the machine does, the log is settled, and a line was read.
-    requires callable { F.IsAlwaysCallable answer.now }
-    requires answers { AnswersBy F.Fn answer.now M.answers }
-    requires settled { IsSettled D.seen D.may_leave kept.old.log }
-    requires text { (text : List ℕ) × IsText line buffer.old.line text }
+> Turns<Kept<S, D>, NothingHeld, W, DiskFault> for KeptTurns<'a, M, F> {
+    ghost use Rattle.wb_kept.specs.Turning.{Goes, Halts};
+    ghost use Rattle.wb_kept.specs.TurnLaws.{kept_turns};
 
-    // The lines are answered, their changes kept and their replies given out.
-    ensures ok { IfOk result (λ count. (first : List ℕ) → IsText line buffer.old.line first → (steps : List Step)
-        × Turned M.answers D.seen D.moment D.left_since kept.old kept.new first buffer.old buffer.new steps kept.new.state
-        × IsCommitted D.seen D.may_leave kept.old kept.new steps kept.new.state count
-        × Appends (W.contents writer.old) (W.contents writer.new) (replies_of steps)
-        × AnswersEach first buffer.old buffer.new steps) }
+    ghost ready = { λ turns. F.IsAlwaysCallable turns.answer.now × AnswersBy F.Fn turns.answer.now M.answers };
 
-    // After a fault: what was answered, and what of it was kept and given out.
-    ensures err { IfErr result (λ halt. (first : List ℕ) → IsText line buffer.old.line first → (steps : List Step) × (last : S)
-        × Turned M.answers D.seen D.moment D.left_since kept.old kept.new first buffer.old buffer.new steps last
-        × Halts D.seen D.may_leave kept.old kept.new (W.contents writer.old) (W.contents writer.new) steps last halt.0 halt.1) }
+    ghost rests = { λ kept. IsSettled D.seen D.may_leave kept.log };
 
-    // A fault is the writer's or the device's.
-    ensures failed { IfErr result (λ halt. halt.1 ≡ Stop.WriteFault → W.failed writer.new ≡ true) }
-    ensures disk { IfErr result (λ halt. halt.1 ≡ Stop.DiskFault → D.faults kept.old.log.device < D.faults kept.new.log.device) }
-    ensures faults { D.faults kept.old.log.device ≤ D.faults kept.new.log.device }
-{
-    let mut turn = Turn::new(alloc);
-    if kept
-        .answer::<M, F>(alloc, answer, line, buffer.line(), &mut turn)
-        .is_err()
-    {
-        return Err((0, Stop::NoMemory));
+    ghost goes = { Goes M.answers D.seen D.may_leave D.moment D.left_since D.faults };
+
+    ghost halts = { Halts M.answers D.seen D.may_leave D.moment D.left_since D.faults };
+
+    fn serve_turn(
+        &self,
+        kept: &mut Kept<S, D>,
+        _hold: &mut NothingHeld,
+        writer: &mut W,
+        buffer: &mut LineBuffer,
+        line: Line,
+    ) -> Result<u64, (u64, Stop<DiskFault>)> {
+        let mut turn = Turn::new(self.alloc);
+        let Ok(count) = answer_turn::<M, S, D, F>(
+            self.alloc,
+            self.answer,
+            kept,
+            buffer,
+            line,
+            &mut turn,
+        ) else {
+            return Err((0, Stop::NoMemory));
+        };
+        match kept.commit(self.alloc, turn) {
+            Ok(acknowledged) => match give_out(&kept.log, &acknowledged, writer) {
+                Ok(()) => Ok(count),
+                Err(_) => Err((count, Stop::WriteFault)),
+            },
+            Err(AppendErr::Failed) => Err((0, Stop::Other(DiskFault))),
+            // A log of 2^60 bytes counts as no memory.
+            Err(_) => Err((0, Stop::NoMemory)),
+        }
     }
-    let Ok(ahead) = answer_ahead::<M, S, D, F>(alloc, answer, kept, buffer, &mut turn) else {
-        return Err((0, Stop::NoMemory));
-    };
-    match kept.commit(alloc, turn) {
-        Ok(acknowledged) => match give_out(&kept.log, &acknowledged, writer) {
-            Ok(()) => Ok(ahead + 1),
-            Err(_) => Err((ahead + 1, Stop::WriteFault)),
-        },
-        Err(AppendErr::Failed) => Err((0, Stop::DiskFault)),
-        // A log of 2^60 bytes counts as no memory.
-        Err(_) => Err((0, Stop::NoMemory)),
-    }
-}
 
-// Sends on what a writer holds back, where the next line takes a read.
-fn flush_before_wait<W: Sends<NothingHeld>>(
-    writer: &mut W,
-    buffer: &LineBuffer,
-) -> Result<(), WriteFault>
-    ensures bytes { Keeps (W.contents writer.old) (W.contents writer.new) }
-    ensures flushed { OnOk result ((W.flushed writer.new ≡ true) ⊎ BeginsWithLine buffer.now.ahead) }
-    ensures failed { OnErr result (W.failed writer.new ≡ true) }
-{
-    if buffer.has_line() {
-        return Ok(());
-    }
-    match writer.flush(&NothingHeld) {
-        Ok(()) => Ok(()),
-        Err(_) => Err(WriteFault),
-    }
-}
-
-// Sends on what a writer holds back, if it can, where a session ends for another fault.
-fn flush_at_fault<W: Sends<NothingHeld>>(writer: &mut W)
-    ensures { Keeps (W.contents writer.old) (W.contents writer.new) }
-{
-    let _ = writer.flush(&NothingHeld);
+    ghost turns = { kept_turns M.answers D.seen D.may_leave D.moment D.left_since D.faults D.only_now };
 }
 
 /// Answers each line that is read, in order, by `answer`, until the end of input or a fault. Lines that lie ahead are answered in one
@@ -211,34 +211,17 @@ pub fn serve_kept<
     ensures written { WritesUntil result (W.flushed writer.new) (W.failed writer.new) }
     ensures disk { KeepsUntil result (D.faults kept.old.log.device) (D.faults kept.new.log.device) }
 {
-    let mut buffer = LineBuffer::new(alloc);
-    let mut answered = 0;
-    'turns: loop {
-        if flush_before_wait(writer, &buffer).is_err() {
-            return KeptEnd::WriteFault(answered);
-        }
-        match next_line(reader, writer, &NothingHeld, &mut buffer) {
-            Ok(Line::End) => return KeptEnd::Done(answered),
-            Ok(line) => {
-                match serve_turn::<M, S, D, F, W>(alloc, answer, kept, &mut buffer, line, writer) {
-                    Ok(count) => answered += count,
-                    Err((count, Stop::WriteFault)) => return KeptEnd::WriteFault(answered + count),
-                    Err((count, Stop::DiskFault)) => {
-                        flush_at_fault(writer);
-                        return KeptEnd::DiskFault(answered + count);
-                    }
-                    Err((count, Stop::NoMemory)) => {
-                        flush_at_fault(writer);
-                        return KeptEnd::NoMemory(answered + count);
-                    }
-                }
-            }
-            Err(LineFault::ReadFault) => return KeptEnd::ReadFault(answered),
-            Err(LineFault::TooManyReads) => return KeptEnd::TooManyReads(answered),
-            Err(LineFault::NoMemory) => {
-                flush_at_fault(writer);
-                return KeptEnd::NoMemory(answered);
-            }
-        }
+    let turns: KeptTurns<'_, M, F> = KeptTurns {
+        alloc,
+        answer,
+        of: PhantomData,
+    };
+    match serve(alloc, &turns, kept, &mut NothingHeld, reader, writer) {
+        Ok(SessionEnd::Done(count)) => KeptEnd::Done(count),
+        Ok(SessionEnd::ReadFault(count)) => KeptEnd::ReadFault(count),
+        Ok(SessionEnd::TooManyReads(count)) => KeptEnd::TooManyReads(count),
+        Ok(SessionEnd::WriteFault(count)) => KeptEnd::WriteFault(count),
+        Ok(SessionEnd::NoMemory(count)) => KeptEnd::NoMemory(count),
+        Err((count, DiskFault)) => KeptEnd::DiskFault(count),
     }
 }

@@ -5,17 +5,17 @@ use Rattle.wb_kept.specs.Runs.{Leads}
 use Rattle.wb_kept.proofs.Steps.{leads_append}
 use Rattle.wb_kept_group.specs.Together.{changes_in}
 use Rattle.wb_history.specs.Past.{Past}
-use Rattle.wb_log.specs.declared.refusal.Refusal.{Refusal}
-use Rattle.wb_protocol.specs.Machine.{Step, StepIfRead}
-use Rattle.wb_protocol.specs.Replies.{reply_of}
-use Rattle.wb_protocol.specs.declared.replies.reply.Reply.{Reply}
-use Rattle.wb_protocol.specs.declared.replies.reply.Reply.TheVariants.{Edited, Undone, Cascaded, Redone, Listed, Answered, Printed, PrintedFrom, Counted, Explained, Refused}
-use Rattle.wb_protocol.specs.declared.requests.request.Request.{Request}
-use Rattle.wb_protocol.specs.declared.requests.request.Request.TheVariants.{Change}
+use Rattle.wb_edit.specs.declared.refusal.Refusal.{Refusal}
+use Rattle.wb_requests.specs.declared.requests.request.Request.{Request}
+use Rattle.wb_requests.specs.declared.requests.request.Request.TheVariants.{Change}
+use Rattle.wb_requests.specs.Wire.Encoded.{request_line}
+use Rattle.wb_machine.specs.Machine.{Step, StepIfRead}
+use Rattle.wb_machine.specs.Replies.{reply_of}
+use Rattle.wb_machine.specs.declared.replies.reply.Reply.{Reply}
 use Rattle.wb_keeping.specs.Granting.Granting.{Grants, no_edit, AddsIfEdited, AddsLinesOf, AreLinesOf, changes_made}
 use Rattle.wb_keeping.specs.Granting.Leading.{changes_lead}
 use Rattle.wb_keeping.proofs.Added.{adds_none, edit_added, other_added}
-use Rattle.wb_protocol.specs.Wire.Encoded.{request_line}
+use Rattle.wb_machine.specs.declared.replies.reply.Reply.TheVariants.{Edited, Undone, Cascaded, Redone, Listed, Answered, Printed, PrintedFrom, Counted, Explained, Refused}
 use Rattle.wb_desk.proofs.Courses.{all_more, tells_answered}
 use Rattle.wb_desk.specs.Courses.{Course, Marked, all_of}
 use Rattle.wb_desk.specs.Entries.{is_entered, leaves_all}

@@ -1,7 +1,7 @@
 -- What a request of a pass does to what is locked.
 use Rattle.std.specs.Prelude.{◌≡◌, ℕ, true, List, Ok}
-use Rattle.wb_protocol.specs.declared.replies.reply.Reply.{Reply}
-use Rattle.wb_protocol.specs.declared.requests.request.Request.{Request}
+use Rattle.wb_requests.specs.declared.requests.request.Request.{Request}
+use Rattle.wb_machine.specs.declared.replies.reply.Reply.{Reply}
 use Rattle.wb_keeping.specs.Granting.Granting.{AddsLinesOf, changes_made}
 use Rattle.wb_desk.specs.Entries.{leaves_all}
 use Rattle.wb_desk.specs.Serving.{AnswersCourse, IsStrange, share_after}

@@ -1,9 +1,9 @@
 -- Requests that were read of lines, and the lines of the changes that they make.
 use Rattle.std.specs.Prelude.{◌≡◌, ℕ, List, string_bytes, Ok}
-use Rattle.wb_protocol.specs.Requests.{request}
-use Rattle.wb_protocol.specs.declared.replies.reply.Reply.{Reply}
-use Rattle.wb_protocol.specs.declared.requests.request.Request.{Request}
-use Rattle.wb_protocol.specs.declared.requests.request.Request.TheVariants.{Change}
+use Rattle.wb_requests.specs.Requests.{request}
+use Rattle.wb_requests.specs.declared.requests.request.Request.{Request}
+use Rattle.wb_requests.specs.declared.requests.request.Request.TheVariants.{Change}
+use Rattle.wb_machine.specs.declared.replies.reply.Reply.{Reply}
 use Rattle.wb_keeping.specs.Granting.Granting.{AddsIfEdited, AddsLinesOf, IsLineOf, IsOther, undos_made}
 use Rattle.wb_kept_seats.specs.declared.lines.Ahead.{Ahead}
 use Rattle.wb_kept_seats.specs.declared.lines.Ahead.TheVariants.{Edit, NoMemory, Other}

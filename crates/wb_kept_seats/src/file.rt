@@ -12,7 +12,7 @@ use wb_kept_group::group::Store;
 
 /// A file that has the lines with which a desk was opened, and behind them the changes of its turns.
 #[derive(Drop)]
-pub struct File<L: KeptOpening, D: Device> {
+pub(crate) struct File<L: KeptOpening, D: Device> {
     journal: Journal<Turns<L>, D>,
 }
 

@@ -17,7 +17,7 @@ pub use crate::commit::CommitErr;
 pub use crate::desk::Desk;
 pub use crate::opening::{KeptOpening, Turns};
 pub use crate::said::Said;
-pub use crate::sealing::{MadeTurns, Receipt, Sealed};
+pub use crate::sealing::{Receipt, Sealed};
 pub use crate::seats::Seats;
 pub use crate::settling::{SettleErr, Settled, Unsettled, settle};
 pub use crate::turn::Turn;

@@ -1,14 +1,15 @@
 //! The lines of the changes that an answered request made.
 ghost use Rattle.std.specs.Prelude.{◌≡◌, true, false, OnOk};
-ghost use Rattle.wb_protocol.specs.declared.requests.request.Request.{Request};
+ghost use Rattle.wb_requests.specs.declared.requests.request.Request.{Request};
 ghost use Rattle.wb_desk.specs.Entries.{leaves_all};
 ghost use Rattle.wb_kept_seats.specs.Lines.{IsSaid, IsAhead, Adds};
 
 use std::alloc::{AllocError, Global};
 use wb_keeping::{push_edit, push_made};
 use wb_kept::Changes;
-use wb_protocol::wire::edit_text;
-use wb_protocol::{Reply, Request};
+use wb_machine::Reply;
+use wb_requests::Request;
+use wb_requests::wire::edit_text;
 
 /// The line of a request.
 #[derive(Drop)]

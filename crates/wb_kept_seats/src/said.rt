@@ -1,13 +1,13 @@
 //! Requests that were read of lines.
 ghost use Rattle.std.specs.Prelude.{◌≡◌, ◌≢◌, Ok, Err, IfOk, IfErr};
-ghost use Rattle.wb_protocol.specs.Requests.{request};
+ghost use Rattle.wb_requests.specs.Requests.{request};
 ghost use Rattle.wb_kept_seats.specs.Lines.{IsSaid, IsAhead};
 
 use crate::lines::{Ahead, line_ahead};
 use std::alloc::Global;
 use std::marker::Model;
-use wb_history::Refusal;
-use wb_protocol::{Request, read_request};
+use wb_edit::Refusal;
+use wb_requests::{Request, read_request};
 
 /// A request that was read of a line, so that a line can say it, and the line of its change, made while no lock is held. Contracts
 /// see the request.
@@ -18,7 +18,7 @@ pub struct Said {
 }
 
 impl Model for Said {
-    ghost use Rattle.wb_protocol.specs.declared.requests.request.Request.{Request};
+    ghost use Rattle.wb_requests.specs.declared.requests.request.Request.{Request};
     ghost use Rattle.wb_kept_seats.specs.Lines.{IsSaid, IsAhead};
 
     ghost Value = { Request };

@@ -9,9 +9,6 @@ use wb_keep::disk::Device;
 use wb_kept::Changes;
 use wb_kept_group::group::Front;
 
-/// The first so many turns of a desk, in the order of its lock.
-pub type MadeTurns<L> = Front<Turns<L>, Changes>;
-
 /// A value that tells of changes of the turn under way. Only a receipt for that turn opens it.
 #[derive(Drop)]
 pub struct Sealed<L: KeptOpening, T> {

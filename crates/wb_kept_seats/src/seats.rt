@@ -29,7 +29,7 @@ use wb_keep::disk::Device;
 use wb_keep::{AppendErr, LineLog};
 use wb_kept::Changes;
 use wb_kept_group::group::{Batch, Desk, Front, Keeper, Opened, Waiting};
-use wb_protocol::Reply;
+use wb_machine::Reply;
 
 /// What a desk keeps under its lock: the history with its journal, the turns whose changes wait to be kept, and the changes of
 /// the turn under way. It is closed for good where a line is missing.
@@ -199,20 +199,6 @@ impl<L: KeptOpening> Seats<L> {
         ensures fronts { EachFrontStandsIn L.opening.history L.lines self.now.course self.now.made }
     {
         &self.shared
-    }
-
-    /// What is shared, the history and the journal, given up.
-    pub fn into_shared(self) -> Shared<L>
-        ensures { result.course ≡ self.course }
-    {
-        let Seats {
-            alloc: _,
-            shared,
-            turns: _,
-            changes: _,
-            is_open: _,
-        } = self;
-        shared
     }
 }
 

@@ -19,7 +19,7 @@ use wb_arrays::Mover;
 use wb_desk::{Difference, Pass};
 use wb_kept::Changes;
 use wb_kept_group::group::Front;
-use wb_protocol::Reply;
+use wb_machine::Reply;
 
 /// A turn at a desk, which holds the desk's lock. Its replies are sealed until its changes are kept. It has to be ended.
 pub struct Turn<'d, L: KeptOpening> {

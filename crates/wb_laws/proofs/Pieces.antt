@@ -21,8 +21,8 @@ use Rattle.wb_reshape.proofs.Sorted.{of_entries}
 use Rattle.wb_reshape.proofs.States.{array_in-is, same_index}
 use Rattle.wb_reshape.proofs.Without.{IsListedOnce-filter}
 use Rattle.wb_edit.specs.Looks.{array_kind}
-use Rattle.wb_cells.specs.declared.refusal.Refusal as why
-use Rattle.wb_cells.specs.declared.refusal.Refusal.TheVariants.{OutOfDomain}
+use Rattle.wb_cells.specs.declared.refusal.WhyRefused as why
+use Rattle.wb_cells.specs.declared.refusal.WhyRefused.TheVariants.{OutOfDomain}
 use Rattle.wb_edit.proofs.Elements.{number_of, index_order, elements_ascend, find_element, elements_once}
 use Rattle.wb_edit.proofs.Kept.Resized.{holds_at}
 use Rattle.wb_history.specs.Pieces.{mapped_at, locales_of, lies_on, piece_on, piece_by, piece_from, piece_of}
@@ -59,11 +59,11 @@ module _ (s : Cells) (a : Name) where
 in_order : (m n : ℕ) → m < n → nat_lt m n ≡ true
 in_order m n low = grind (arith, low)
 
-given_below : (b : Bool) (xs : List (Index × ℤ)) → IsOk {E = why.Refusal} (if b then Ok xs else Err OutOfDomain) → b ≡ true
+given_below : (b : Bool) (xs : List (Index × ℤ)) → IsOk {E = why.WhyRefused} (if b then Ok xs else Err OutOfDomain) → b ≡ true
 given_below true xs ok = refl
 given_below false xs ok = absurd (cc)
 
-given_is : (b : Bool) (xs ys : List (Index × ℤ)) → ◌≡◌ {A = Result (List (Index × ℤ)) why.Refusal} (if b then Ok xs else Err OutOfDomain) (Ok ys) →
+given_is : (b : Bool) (xs ys : List (Index × ℤ)) → ◌≡◌ {A = Result (List (Index × ℤ)) why.WhyRefused} (if b then Ok xs else Err OutOfDomain) (Ok ys) →
     (b ≡ true) × (xs ≡ ys)
 given_is true xs ys e = (refl, cc)
 given_is false xs ys e = cc

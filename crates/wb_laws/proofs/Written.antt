@@ -5,7 +5,7 @@ use Rattle.selective_undo.specs.Edit.{outcome}
 use Rattle.wb_cells.specs.declared.cells.cell.Cell.{Cell}
 use Rattle.wb_cells.specs.declared.cells.value.Value.{Value}
 use Rattle.wb_cells.specs.Cells.{Cells, Changes}
-use Rattle.wb_cells.specs.declared.refusal.Refusal.{Refusal}
+use Rattle.wb_cells.specs.declared.refusal.WhyRefused.{WhyRefused}
 use Rattle.wb_edit.specs.Rectangles.{read_all}
 use Rattle.wb_edit.specs.Trees.{Tree, read, judged}
 use Rattle.wb_edit.proofs.Rectangles.{gives_all}
@@ -21,12 +21,12 @@ module _ (P : Changes → Type 0) (s : Cells) where
   writes_read c next w = subst (λ v. Writes (next v)) (sym (seen_value s c)) w
 
   -- a judgement goes on with what it gives
-  pub writes_judged : {X : Type 0} (j : Result X Refusal) (next : X → Tree) → ((x : X) → j ≡ Ok x → Writes (next x)) → Writes (judged j next)
+  pub writes_judged : {X : Type 0} (j : Result X WhyRefused) (next : X → Tree) → ((x : X) → j ≡ Ok x → Writes (next x)) → Writes (judged j next)
   writes_judged (Ok x) next w = w x refl
   writes_judged (Err why) next w = λ xs e. cc
 
   -- a look at one cell whose value is judged
-  pub writes_test : {X : Type 0} (c : Cell) (test : Option Value → Result X Refusal) (next : X → Tree) →
+  pub writes_test : {X : Type 0} (c : Cell) (test : Option Value → Result X WhyRefused) (next : X → Tree) →
       ((x : X) → test (get s c) ≡ Ok x → Writes (next x)) → Writes (read c (λ v. judged (test v) next))
   writes_test c test next w = writes_read c (λ v. judged (test v) next) (writes_judged (test (get s c)) next w)
 

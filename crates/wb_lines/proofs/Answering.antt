@@ -9,9 +9,9 @@ use Rattle.wb_lines.specs.Lines.{ended}
 use Rattle.wb_lines.specs.Replies.{Replies}
 use Rattle.wb_lines.specs.Session.{AnswersLine, AnswersAll, too_long}
 use Rattle.wb_lines.specs.Reading.{Reading, IsText, line_limit}
-use Rattle.wb_lines.specs.Turns.{TakesLines, IsTaken, AreTaken, reply_text, all_texts, GetReplies, LeavesUntold, AnswersTold}
+use Rattle.wb_lines.specs.TurnLaws.{all_append, told_behind}
+use Rattle.wb_lines.specs.Turns.{TakesLines, IsTaken, AreTaken, reply_text, all_texts, GetReplies, LeavesUntold, AnswersTold, turn_limit}
 use Rattle.wb_lines.specs.declared.buffer.Line.{Line}
-use Rattle.wb_lines.proofs.Running.{all_append}
 
 -- Of the lines asked a front was answered, and the rest is what is left.
 pub record Answering {M P : Type 0} (answers : M → List ℕ → List ℕ → M → Type 0) (reads : List ℕ → P → Type 0) (m n : M) (before after : Option (List ℕ))
@@ -56,42 +56,8 @@ texts_push text (q ∷ rs) r = ap (λ x. ended (reply_text text q) ++ x) (texts_
     (append_assoc (ended (reply_text text q)) (all_texts text rs) (ended (reply_text text r)))
 
 module _ {M : Type 0} (answers : M → List ℕ → List ℕ → M → Type 0) where
-  pub told_none : (m : M) (asked : List (List ℕ)) → AnswersTold answers m asked [] 0 m
+  pub told_none : (m : M) (asked : List (List ℕ)) → AnswersTold turn_limit answers m asked [] 0 m
   told_none m asked = ([], [], asked, [], [], m, refl, ((refl, refl), refl), refl, omega arith, (refl, refl))
-
-  -- what was answered before it, and told
-  pub told_behind : (m n k : M) (asked first rest : List (List ℕ)) (text sent : List ℕ) (count next : ℕ) → asked ≡ first ++ rest
-      → AnswersAll answers m first text count n → AnswersTold answers n rest sent next k → AnswersTold answers m asked (text ++ sent) (count + next) k
-  told_behind m n k asked first rest text sent count next e a (answered, untold, beyond, whole, part, between, split, b, cut, short, last) = (
-    first ++ answered,
-    untold,
-    beyond,
-    text ++ whole,
-    part,
-    between,
-    e ∙ ap (λ x. first ++ x) split ∙ sym (append_assoc first answered (untold ++ beyond)),
-    all_append answers m n between first answered text whole count next a b,
-    ap (λ x. text ++ x) cut ∙ sym (append_assoc text whole part),
-    short,
-    last,
-  )
-
-  -- and lines that were not come to
-  pub told_more : (m n : M) (asked behind : List (List ℕ)) (text : List ℕ) (count : ℕ) → AnswersTold answers m asked text count n
-      → AnswersTold answers m (asked ++ behind) text count n
-  told_more m n asked behind text count (answered, untold, beyond, whole, part, between, split, b, cut, short, last) = (
-    answered,
-    untold,
-    beyond ++ behind,
-    whole,
-    part,
-    between,
-    ap (λ x. x ++ behind) split ∙ append_assoc answered (untold ++ beyond) behind ∙ ap (λ x. answered ++ x) (append_assoc untold beyond behind),
-    b,
-    cut,
-    short,
-    last,
-  )
 
   untold_all : (m n : M) (done : List (List ℕ)) (texts : List ℕ) → Replies (AnswersLine answers) m done texts n → LeavesUntold answers m done [] n
   untold_all m n [] texts r = (refl, r.1)
@@ -100,7 +66,7 @@ module _ {M : Type 0} (answers : M → List ℕ → List ℕ → M → Type 0) w
 
   -- lines were answered, and none was told
   pub told_nothing : (m n : M) (asked done rest : List (List ℕ)) (texts : List ℕ) → asked ≡ done ++ rest → length asked ≤ 256
-      → Replies (AnswersLine answers) m done texts n → AnswersTold answers m asked [] 0 n
+      → Replies (AnswersLine answers) m done texts n → AnswersTold turn_limit answers m asked [] 0 n
   told_nothing m n asked done rest texts e short r = (
     [],
     done,
@@ -153,7 +119,7 @@ module _ {M Q : Type 0} (answers : M → List ℕ → List ℕ → M → Type 0)
   -- of the replies to these lines a front was sent, and the next in part
   pub told_part : (m n : M) (asked done rest : List (List ℕ)) (replies sent left : List (Option Q)) (first : Option Q) (k : ℕ) → asked ≡ done ++ rest
       → length asked ≤ 256 → GetReplies answers text m done replies n → replies ≡ sent ++ first ∷ left → k < length (ended (reply_text text first))
-      → AnswersTold answers m asked (all_texts text sent ++ take k (ended (reply_text text first))) (length sent) n
+      → AnswersTold turn_limit answers m asked (all_texts text sent ++ take k (ended (reply_text text first))) (length sent) n
   told_part m n asked done rest replies sent left first k e short g split h =
       let parts = got_split m n done sent (first ∷ left) (subst (λ rs. GetReplies answers text m done rs n) split g) in
       let all : asked ≡ parts.0 ++ (parts.1 ++ rest) = e ∙ ap (λ x. x ++ rest) parts.3 ∙ append_assoc parts.0 parts.1 rest in (
@@ -231,13 +197,13 @@ module _ {M Q : Type 0} (answers : M → List ℕ → List ℕ → M → Type 0)
         → IfErr r (λ halt. (sent later : List (Option Q)) × (first : Option Q) × (k : ℕ) × (replies ≡ sent ++ first ∷ later) × (halt.0 ≡ length sent)
         × (k < length (ended (reply_text text first))) × Appends before after (all_texts text sent ++ take k (ended (reply_text text first))))
         → IfErr r (λ halt. (asked : List (List ℕ)) → AreTaken reads asked held → (sent : List ℕ) × Appends before after sent
-        × AnswersTold answers m asked sent halt.0 n)
+        × AnswersTold turn_limit answers m asked sent halt.0 n)
     turn_halts (Ok x) m n before after held left replies short h g = tt
     turn_halts (Err halt) m n before after held left replies short h (sent, later, first, k, split, count, fits, w) = λ asked t.
         let a = h asked t in (
           all_texts text sent ++ take k (ended (reply_text text first)),
           w,
-          subst (λ c. AnswersTold answers m asked (all_texts text sent ++ take k (ended (reply_text text first))) c n) (sym count)
+          subst (λ c. AnswersTold turn_limit answers m asked (all_texts text sent ++ take k (ended (reply_text text first))) c n) (sym count)
               (told_part m n asked a.0 a.1 replies sent later first k a.2 (omega (arith, short, taken_length reads asked held t)) a.4 split fits),
         )
 
@@ -295,13 +261,13 @@ module _ {M P : Type 0} (answers : M → List ℕ → List ℕ → M → Type 0)
   -- a turn was answered, and not all told
   pub answering_stops : (m n k : M) (before mid after : Option (List ℕ)) (asked : List (List ℕ)) (held : List (Option P)) (count next : ℕ)
       → Answering answers reads m n before mid asked held count
-      → ((now : List (List ℕ)) → AreTaken reads now held → (text : List ℕ) × Appends mid after text × AnswersTold answers n now text next k)
-      → (text : List ℕ) × Appends before after text × AnswersTold answers m asked text (count + next) k
+      → ((now : List (List ℕ)) → AreTaken reads now held → (text : List ℕ) × Appends mid after text × AnswersTold turn_limit answers n now text next k)
+      → (text : List ℕ) × Appends before after text × AnswersTold turn_limit answers m asked text (count + next) k
   answering_stops m n k before mid after asked held count next a h =
       let turn = h a.rest a.taken in (
         a.text ++ turn.0,
         Appends-trans before mid after a.text turn.0 a.written turn.1,
-        told_behind answers m n k asked a.answered a.rest a.text turn.0 count next a.all a.replies turn.2,
+        told_behind turn_limit answers m n k asked a.answered a.rest a.text turn.0 count next a.all a.replies turn.2,
       )
 
   -- a turn whose lines were taken, and then answered
@@ -317,8 +283,8 @@ module _ {M P : Type 0} (answers : M → List ℕ → List ℕ → M → Type 0)
   pub turn_err : {X Y : Type 0} (m n : M) (before after : Option (List ℕ)) (line : Line) (kept : List ℕ) (old mid : Reading) (held : List (Option P))
       (r : Result X (ℕ × Y)) (more : List (List ℕ)) → TakesLines old mid more → ((first : List ℕ) → IsText line kept first → AreTaken reads (first ∷ more) held)
       → IfErr r (λ halt. (asked : List (List ℕ)) → AreTaken reads asked held → (text : List ℕ) × Appends before after text
-      × AnswersTold answers m asked text halt.0 n)
+      × AnswersTold turn_limit answers m asked text halt.0 n)
       → IfErr r (λ halt. (first : List ℕ) → IsText line kept first → (behind : List (List ℕ)) × TakesLines old mid behind
-      × ((text : List ℕ) × Appends before after text × AnswersTold answers m (first ∷ behind) text halt.0 n))
+      × ((text : List ℕ) × Appends before after text × AnswersTold turn_limit answers m (first ∷ behind) text halt.0 n))
   turn_err m n before after line kept old mid held (Ok count) more t h a = tt
   turn_err m n before after line kept old mid held (Err x) more t h a = λ first is. (more, t, a (first ∷ more) (h first is))

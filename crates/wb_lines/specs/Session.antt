@@ -3,11 +3,11 @@ use Rattle.std.specs.Prelude.{◌≡◌, ◌⊎◌, ◌<◌, ℕ, List, [], ◌�
 use Rattle.std.specs.Fn.{Shared}
 use Rattle.std.specs.declared.vec.Vec.{Vec}
 use denote.Ref.{Bor, MutBor}
-use Rattle.wb_lines.specs.Lines.{ended, lines, whole_lines, finished_lines}
+use Rattle.wb_lines.specs.Lines.{ended}
 use Rattle.wb_lines.specs.Reading.{line_limit}
 use Rattle.wb_lines.specs.Replies.{Replies}
+use Rattle.wb_lines.specs.Serving.{EndsBy}
 use Rattle.wb_lines.specs.declared.machine.SessionEnd.{SessionEnd}
-use Rattle.wb_lines.specs.declared.machine.SessionEnd.TheVariants as ends
 
 -- the reply to a line that is too long
 abbrev pub too_long : List ℕ
@@ -50,8 +50,4 @@ AnswersSome answers m asked text count n = (answered rest : List (List ℕ)) × 
 
 -- from the bytes that were read, with these left, to the text that was written
 abbrev pub Serves : {M : Type 0} → (M → List ℕ → List ℕ → M → Type 0) → SessionEnd → M → (read : List ℕ) → (left : Option (List ℕ)) → List ℕ → M → Type 0
-Serves answers (ends.Done count) m read left text n = AnswersAll answers m (lines read) text count n
-Serves answers (ends.ReadFault count) m read left text n = AnswersAll answers m (whole_lines read) text count n
-Serves answers (ends.TooManyReads count) m read left text n = AnswersAll answers m (whole_lines read) text count n
-Serves answers (ends.WriteFault count) m read left text n = AnswersSome answers m (finished_lines read left) text count n
-Serves answers (ends.NoMemory count) m read left text n = AnswersSome answers m (finished_lines read left) text count n
+Serves answers end m read left text n = EndsBy (AnswersAll answers) (AnswersSome answers) (AnswersSome answers) end m read left text n

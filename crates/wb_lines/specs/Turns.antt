@@ -4,12 +4,12 @@ use Rattle.std.specs.List.{flat_map}
 use Rattle.std.specs.Fn.{Shared}
 use Rattle.std.specs.declared.vec.Vec.{Vec}
 use denote.Ref.{Bor, MutBor}
-use Rattle.wb_lines.specs.Lines.{AreUnbroken, ended, lines, whole_lines, finished_lines}
+use Rattle.wb_lines.specs.Lines.{AreUnbroken, ended}
 use Rattle.wb_lines.specs.Reading.{Reading, IsSameReader, line_limit}
 use Rattle.wb_lines.specs.Replies.{Replies}
 use Rattle.wb_lines.specs.Session.{AnswersLine, AnswersAll, too_long}
+use Rattle.wb_lines.specs.Serving.{EndsBy}
 use Rattle.wb_lines.specs.declared.machine.SessionEnd.{SessionEnd}
-use Rattle.wb_lines.specs.declared.machine.SessionEnd.TheVariants as ends
 
 -- These lines lay ahead, each with its end, and were taken. Nothing was read.
 pub record TakesLines (old new : Reading) (texts : List (List ℕ)) : Type 0 where
@@ -110,17 +110,14 @@ LeavesUntold answers m [] text n = (text ≡ []) × (n ≡ m)
 LeavesUntold answers m (line ∷ more) text n = (reply rest : List ℕ) × (after : _) × AnswersLine answers m line reply after
     × Replies (AnswersLine answers) after more rest n × ((k : ℕ) × (k < length (ended reply)) × (text ≡ take k (ended reply)))
 
--- some of these lines were answered and told, and perhaps further ones, no more than a turn has, were answered and not told
-abbrev pub AnswersTold : {M : Type 0} → (M → List ℕ → List ℕ → M → Type 0) → M → List (List ℕ) → List ℕ → ℕ → M → Type 0
-AnswersTold answers m asked text count n = (answered untold rest : List (List ℕ)) × (sent part : List ℕ) × (between : _)
+-- some of these lines were answered and told, and perhaps further ones, so many at most, were answered and not told
+abbrev pub AnswersTold : {M : Type 0} → (limit : ℕ) → (M → List ℕ → List ℕ → M → Type 0) → M → List (List ℕ) → List ℕ → ℕ → M → Type 0
+AnswersTold limit answers m asked text count n = (answered untold rest : List (List ℕ)) × (sent part : List ℕ) × (between : _)
     × (asked ≡ answered ++ (untold ++ rest)) × AnswersAll answers m answered sent count between × (text ≡ sent ++ part)
-    × (length untold ≤ turn_limit) × LeavesUntold answers between untold part n
+    × (length untold ≤ limit) × LeavesUntold answers between untold part n
 
--- from the bytes that were read, with these left, to the text that was written
+-- from the bytes that were read, with these left, to the text that was written; no more than a turn of lines is not told
 abbrev pub ServesTurns : {M : Type 0} → (M → List ℕ → List ℕ → M → Type 0) → SessionEnd → M → (read : List ℕ) → (left : Option (List ℕ)) → List ℕ → M →
     Type 0
-ServesTurns answers (ends.Done count) m read left text n = AnswersAll answers m (lines read) text count n
-ServesTurns answers (ends.ReadFault count) m read left text n = AnswersAll answers m (whole_lines read) text count n
-ServesTurns answers (ends.TooManyReads count) m read left text n = AnswersAll answers m (whole_lines read) text count n
-ServesTurns answers (ends.WriteFault count) m read left text n = AnswersTold answers m (finished_lines read left) text count n
-ServesTurns answers (ends.NoMemory count) m read left text n = AnswersTold answers m (finished_lines read left) text count n
+ServesTurns answers end m read left text n =
+    EndsBy (AnswersAll answers) (AnswersTold turn_limit answers) (AnswersTold turn_limit answers) end m read left text n

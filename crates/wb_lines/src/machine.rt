@@ -15,6 +15,17 @@ pub enum SessionEnd {
     NoMemory(u64),
 }
 
+/// Why a turn of lines is not served whole. Only some turns can fail for another cause.
+#[derive(Clone, Copy, Debug, PartialEq, Eq)]
+pub enum Stop<E> {
+    /// A write failed, or a write took nothing.
+    WriteFault,
+    /// There was no memory for a line or for its reply.
+    NoMemory,
+    /// What serves the turn failed.
+    Other(E),
+}
+
 /// What may be answered to lines in states. It has no code: who serves lines hands in a function that answers so.
 pub trait Machine<S> {
     // From a state a line may get a reply, which leads to a state.

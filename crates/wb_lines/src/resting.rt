@@ -21,6 +21,7 @@ pub trait Holds {
 }
 
 /// Nothing, which is never held.
+#[derive(Drop)]
 pub struct NothingHeld;
 
 impl Holds for NothingHeld {

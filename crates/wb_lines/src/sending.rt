@@ -1,7 +1,10 @@
-ghost use Rattle.std.specs.Prelude.{◌≡◌, ℕ, ◌<◌, true, false, length, take, OnOk, OnErr};
+ghost use Rattle.std.specs.Prelude.{◌≡◌, ℕ, ◌<◌, true, false, length, take, OnOk, OnErr, IsErrOf};
 ghost use Rattle.std.specs.Io.KnownBytes.{Appends};
+ghost use Rattle.wb_lines.specs.Lines.{ended};
 
+use crate::machine::Stop;
 use crate::resting::{Holds, Sends};
+use std::convert::Infallible;
 use thiserror::Error;
 
 /// A write failed or took nothing.
@@ -30,4 +33,26 @@ pub fn send<K: Holds, W: Sends<K>>(writer: &mut W, hold: &K, bytes: &[u8]) -> Re
         }
     }
     Ok(())
+}
+
+// Sends a reply and a line end.
+pub(crate) fn send_reply<K: Holds, W: Sends<K>>(
+    writer: &mut W,
+    hold: &K,
+    reply: Vec<u8>,
+) -> Result<(), Stop<Infallible>>
+    requires free { K.held hold.now ≡ false }
+    ensures ok { OnOk result (Appends (W.contents writer.old) (W.contents writer.new) (ended reply.items)) }
+    ensures err { OnErr result ((k : ℕ) × (k < length (ended reply.items))
+        × Appends (W.contents writer.old) (W.contents writer.new) (take k (ended reply.items))) }
+    ensures failed { IsErrOf result Stop.WriteFault → W.failed writer.new ≡ true }
+{
+    let mut line = reply;
+    if line.push(b'\n').is_err() {
+        return Err(Stop::NoMemory);
+    }
+    match send(writer, hold, line.as_slice()) {
+        Ok(()) => Ok(()),
+        Err(_) => Err(Stop::WriteFault),
+    }
 }

@@ -1,24 +1,25 @@
-ghost use Rattle.std.specs.Prelude.{◌≡◌, ◌≢◌, ◌⊎◌, ◌<◌, ℕ, List, [], ◌++◌, length, take, true, false, IfOk, OnOk, OnErr, IsErrOf};
-ghost use Rattle.std.specs.Io.KnownBytes.{Appends, Consumes, IsAtEnd, Keeps};
+//! A session that answers its lines one by one.
+ghost use Rattle.std.specs.Prelude.{◌≡◌, ◌≢◌, ◌⊎◌, ◌<◌, ℕ, List, [], length, take, true, IfOk, OnOk, OnErr, IsErrOf};
+ghost use Rattle.std.specs.Io.KnownBytes.{Appends, Consumes};
 ghost use Rattle.wb_lines.specs.Causes.{ReadsUntil, WritesUntil};
-ghost use Rattle.wb_lines.specs.Lines.{BeginsWithLine, ended};
+ghost use Rattle.wb_lines.specs.Lines.{ended};
 ghost use Rattle.wb_lines.specs.Reading.{IsText};
-ghost use Rattle.wb_lines.specs.Session.{AnswersLine, AnswersBy, MayAnswer, Serves};
-ghost use Rattle.wb_lines.specs.declared.machine.SessionEnd.{SessionEnd};
+ghost use Rattle.wb_lines.specs.Session.{AnswersLine, AnswersBy, MayAnswer, Serves, too_long};
 
-use crate::buffer::{Line, LineBuffer, LineFault, next_line};
-use crate::machine::{Machine, SessionEnd};
-use crate::resting::{Hears, Holds, NothingHeld, Sends};
-use crate::sending::{WriteFault, send};
+use crate::buffer::{Line, LineBuffer};
+use crate::machine::{Machine, SessionEnd, Stop};
+use crate::resting::{Hears, NothingHeld, Sends};
+use crate::sending::send_reply;
+use crate::serving::{Turns, serve};
 use std::alloc::{AllocError, Global};
+use std::convert::Infallible;
+use std::marker::PhantomData;
 
-pub(crate) const TOO_LONG: &[u8] = b"{\"error\":\"E91\",\"name\":\"line-too-long\"}";
-
-// Why a line is not answered whole.
-#[derive(Clone, Copy)]
-pub(crate) enum Stop {
-    WriteFault,
-    NoMemory,
+/// The reply to a line that is too long.
+pub fn reply_to_too_long(alloc: Global) -> Result<Vec<u8>, AllocError>
+    ensures { IfOk result (λ reply. reply.items ≡ too_long) }
+{
+    Vec::from_slice(alloc, b"{\"error\":\"E91\",\"name\":\"line-too-long\"}")
 }
 
 // The reply to a line that is no end.
@@ -38,7 +39,7 @@ fn reply_to<M: Machine<S>, S, F: Fn(&mut S, &[u8]) -> Result<Vec<u8>, AllocError
         → MayAnswer (AnswersLine M.answers) state.old text state.new) }
 {
     match line {
-        Line::TooLong => Vec::from_slice(alloc, TOO_LONG),
+        Line::TooLong => reply_to_too_long(alloc),
         _ => answer(state, bytes),
     }
 }
@@ -56,7 +57,7 @@ fn answer_line<
     writer: &mut W,
     line: Line,
     bytes: &[u8],
-) -> Result<(), Stop>
+) -> Result<(), Stop<Infallible>>
     requires some { line ≢ Line.End }
     requires callable { F.IsAlwaysCallable answer.now }
     requires answers { AnswersBy F.Fn answer.now M.answers }
@@ -70,45 +71,61 @@ fn answer_line<
         × Appends (W.contents writer.old) (W.contents writer.new) (take k (ended reply))))) }
     ensures failed { IsErrOf result Stop.WriteFault → W.failed writer.new ≡ true }
 {
-    let mut reply = match reply_to::<M, S, F>(alloc, state, answer, line, bytes) {
-        Ok(reply) => reply,
-        Err(_) => return Err(Stop::NoMemory),
-    };
-    if reply.push(b'\n').is_err() {
-        return Err(Stop::NoMemory);
-    }
-    match send(writer, &NothingHeld, reply.as_slice()) {
-        Ok(()) => Ok(()),
-        Err(_) => Err(Stop::WriteFault),
+    match reply_to::<M, S, F>(alloc, state, answer, line, bytes) {
+        Ok(reply) => send_reply(writer, &NothingHeld, reply),
+        Err(_) => Err(Stop::NoMemory),
     }
 }
 
-// Sends on what a writer holds back, where the next line takes a read.
-pub(crate) fn flush_before_wait<K: Holds, W: Sends<K>>(
-    writer: &mut W,
-    hold: &K,
-    buffer: &LineBuffer,
-) -> Result<(), WriteFault>
-    requires free { K.held hold.now ≡ false }
-    ensures bytes { Keeps (W.contents writer.old) (W.contents writer.new) }
-    ensures flushed { OnOk result ((W.flushed writer.new ≡ true) ⊎ BeginsWithLine buffer.now.ahead) }
-    ensures failed { OnErr result (W.failed writer.new ≡ true) }
-{
-    if buffer.has_line() {
-        return Ok(());
-    }
-    match writer.flush(hold) {
-        Ok(()) => Ok(()),
-        Err(_) => Err(WriteFault),
-    }
+// Turns of one line each, which is answered by the function that is handed in, and its reply sent.
+#[derive(Drop)]
+struct OneByOne<'a, M, F> {
+    alloc: Global,
+    answer: &'a F,
+    of: PhantomData<M>,
 }
 
-// Sends on what a writer holds back, if it can, where a session ends for another fault.
-pub(crate) fn flush_at_fault<K: Holds, W: Sends<K>>(writer: &mut W, hold: &K)
-    requires free { K.held hold.now ≡ false }
-    ensures { Keeps (W.contents writer.old) (W.contents writer.new) }
-{
-    let _ = writer.flush(hold);
+impl<
+    'a,
+    M: Machine<S>,
+    S,
+    F: Fn(&mut S, &[u8]) -> Result<Vec<u8>, AllocError>,
+    W: Sends<NothingHeld>,
+> Turns<S, NothingHeld, W, Infallible> for OneByOne<'a, M, F> {
+    ghost use Rattle.wb_lines.specs.Session.{AnswersAll};
+    ghost use Rattle.wb_lines.specs.Turns.{AnswersTold};
+    ghost use Rattle.wb_lines.specs.TurnLaws.{told_turns};
+
+    ghost ready = { λ turns. F.IsAlwaysCallable turns.answer.now × AnswersBy F.Fn turns.answer.now M.answers };
+
+    ghost rests = { λ state. Unit {0} };
+
+    ghost goes = { AnswersAll M.answers };
+
+    ghost halts = { λ stop. AnswersTold 1 M.answers };
+
+    fn serve_turn(
+        &self,
+        state: &mut S,
+        _hold: &mut NothingHeld,
+        writer: &mut W,
+        buffer: &mut LineBuffer,
+        line: Line,
+    ) -> Result<u64, (u64, Stop<Infallible>)> {
+        match answer_line::<M, S, F, W>(
+            self.alloc,
+            state,
+            self.answer,
+            writer,
+            line,
+            buffer.line(),
+        ) {
+            Ok(()) => Ok(1),
+            Err(stop) => Err((0, stop)),
+        }
+    }
+
+    ghost turns = { told_turns 1 M.answers };
 }
 
 /// Answers each line that is read, in order, until the end of input or a fault. A line that is too
@@ -129,30 +146,13 @@ pub fn serve_lines<
     ensures read { ReadsUntil result (R.remaining reader.new) (R.failed reader.new) (R.reads reader.old) (R.reads reader.new) }
     ensures written { WritesUntil result (W.flushed writer.new) (W.failed writer.new) }
 {
-    let mut buffer = LineBuffer::new(alloc);
-    let mut answered = 0;
-    'lines: loop {
-        if flush_before_wait(writer, &NothingHeld, &buffer).is_err() {
-            return SessionEnd::WriteFault(answered);
-        }
-        match next_line(reader, writer, &NothingHeld, &mut buffer) {
-            Ok(Line::End) => return SessionEnd::Done(answered),
-            Ok(line) => {
-                match answer_line::<M, S, F, W>(alloc, state, answer, writer, line, buffer.line()) {
-                    Ok(()) => answered += 1,
-                    Err(Stop::WriteFault) => return SessionEnd::WriteFault(answered),
-                    Err(Stop::NoMemory) => {
-                        flush_at_fault(writer, &NothingHeld);
-                        return SessionEnd::NoMemory(answered);
-                    }
-                }
-            }
-            Err(LineFault::ReadFault) => return SessionEnd::ReadFault(answered),
-            Err(LineFault::TooManyReads) => return SessionEnd::TooManyReads(answered),
-            Err(LineFault::NoMemory) => {
-                flush_at_fault(writer, &NothingHeld);
-                return SessionEnd::NoMemory(answered);
-            }
-        }
+    let turns: OneByOne<'_, M, F> = OneByOne {
+        alloc,
+        answer,
+        of: PhantomData,
+    };
+    match serve(alloc, &turns, state, &mut NothingHeld, reader, writer) {
+        Ok(end) => end,
+        Err((_, never)) => match never {},
     }
 }

@@ -9,15 +9,18 @@ ghost use Rattle.wb_lines.specs.Replies.{Replies};
 ghost use Rattle.wb_lines.specs.Session.{AnswersLine, AnswersAll};
 ghost use Rattle.wb_lines.specs.Turns.{TakesLines, ReadsBy, AnswersReadBy, AnswersWithin, CountsCost, TellsBy, TellsWhileFree, LetsGo};
 ghost use Rattle.wb_lines.specs.Turns.{IsTaken, AreTaken, HasRoom, IsUnspent};
-ghost use Rattle.wb_lines.specs.Turns.{reply_text, all_texts, GetReplies, AnswersTold, ServesTurns};
+ghost use Rattle.wb_lines.specs.Turns.{reply_text, all_texts, GetReplies, AnswersTold, ServesTurns, turn_limit};
 
-use crate::buffer::{Line, LineBuffer, LineFault, next_line};
-use crate::machine::{Asks, Machine, SessionEnd, Tells};
+use crate::buffer::{Line, LineBuffer};
+use crate::machine::{Asks, Machine, SessionEnd, Stop, Tells};
 use crate::resting::{Hears, Holds, Sends};
-use crate::sending::send;
-use crate::session::{Stop, TOO_LONG, flush_at_fault, flush_before_wait};
+use crate::sending::send_reply;
+use crate::serving::{Turns, serve};
+use crate::session::reply_to_too_long;
 use std::alloc::{AllocError, Global};
 use std::collections::VecDeque;
+use std::convert::Infallible;
+use std::marker::PhantomData;
 
 // So many lines are taken together at most, so a turn has no more.
 const TURN_LIMIT: usize = 256;
@@ -86,8 +89,8 @@ fn take_turn<M: Asks<P>, P: Drop, G: Fn(&[u8]) -> P>(
     take_ahead::<M, P, G>(buffer, parse, turn)
 }
 
-// The reply to a line that was taken, or nothing where it is too long; and what it cost.
-fn reply_to<
+// Answers a line that was taken: the reply, or nothing where it is too long, and what it cost.
+fn answer_one<
     M: Machine<S> + Asks<P> + Tells<Q>,
     S,
     K: Holds,
@@ -153,7 +156,7 @@ fn answer_lines<
 {
     let mut spent: u64 = 0;
     while let Some(next) = taken.pop_front() {
-        let (reply, cost) = reply_to::<M, S, K, P, Q, F>(state, hold, answer, next);
+        let (reply, cost) = answer_one::<M, S, K, P, Q, F>(state, hold, answer, next);
         if replies.push_back(reply).is_err() {
             return Err(AllocError);
         }
@@ -165,7 +168,7 @@ fn answer_lines<
     Ok(())
 }
 
-// The text of a reply and a line end.
+// The text of a reply.
 fn text_of<M: Tells<Q>, K: Holds, Q, T: Fn(&K, Q) -> Result<Vec<u8>, AllocError>>(
     alloc: Global,
     hold: &K,
@@ -175,20 +178,11 @@ fn text_of<M: Tells<Q>, K: Holds, Q, T: Fn(&K, Q) -> Result<Vec<u8>, AllocError>
     requires callable { TellsWhileFree T.Fn tell.now K.held }
     requires free { K.held hold.now ≡ false }
     requires tells { TellsBy T.Fn tell.now M.text }
-    ensures { IfOk result (λ made. made.items ≡ ended (reply_text M.text reply)) }
+    ensures { IfOk result (λ made. made.items ≡ reply_text M.text reply) }
 {
-    let made = match reply {
-        None => Vec::from_slice(alloc, TOO_LONG),
+    match reply {
+        None => reply_to_too_long(alloc),
         Some(reply) => tell(hold, reply),
-    };
-    match made {
-        Ok(mut text) => {
-            if text.push(b'\n').is_err() {
-                return Err(AllocError);
-            }
-            Ok(text)
-        }
-        Err(_) => Err(AllocError),
     }
 }
 
@@ -199,7 +193,7 @@ fn tell_reply<M: Tells<Q>, K: Holds, Q, T: Fn(&K, Q) -> Result<Vec<u8>, AllocErr
     tell: &T,
     writer: &mut W,
     reply: Option<Q>,
-) -> Result<(), Stop>
+) -> Result<(), Stop<Infallible>>
     requires callable { TellsWhileFree T.Fn tell.now K.held }
     requires tells { TellsBy T.Fn tell.now M.text }
     requires free { K.held hold.now ≡ false }
@@ -209,10 +203,7 @@ fn tell_reply<M: Tells<Q>, K: Holds, Q, T: Fn(&K, Q) -> Result<Vec<u8>, AllocErr
     ensures failed { IsErrOf result Stop.WriteFault → W.failed writer.new ≡ true }
 {
     match text_of::<M, K, Q, T>(alloc, hold, tell, reply) {
-        Ok(text) => match send(writer, hold, text.as_slice()) {
-            Ok(()) => Ok(()),
-            Err(_) => Err(Stop::WriteFault),
-        },
+        Ok(text) => send_reply(writer, hold, text),
         Err(_) => Err(Stop::NoMemory),
     }
 }
@@ -230,7 +221,7 @@ fn tell_replies<
     tell: &T,
     writer: &mut W,
     replies: &mut VecDeque<Option<Q>>,
-) -> Result<u64, (u64, Stop)>
+) -> Result<u64, (u64, Stop<Infallible>)>
     // `tell` makes the text of a reply while nothing is held; there are 256 at most.
     requires callable { TellsWhileFree T.Fn tell.now K.held }
     requires tells { TellsBy T.Fn tell.now M.text }
@@ -288,7 +279,7 @@ fn answer_turn<
     let_go: &H,
     writer: &mut W,
     taken: &mut VecDeque<Option<P>>,
-) -> Result<u64, (u64, Stop)>
+) -> Result<u64, (u64, Stop<Infallible>)>
     // What `answer`, `tell` and `let_go` do, which are handed in.
     requires callable { AnswersWithin F.Fn answer.now K.spent K.answered }
     requires answers { AnswersReadBy F.Fn answer.now M.reads M.text M.answers }
@@ -313,7 +304,7 @@ fn answer_turn<
         × AnswersAll M.answers state.old done text count state.new)) }
     ensures err { IfErr result (λ halt. (asked : List (List ℕ)) → AreTaken M.reads asked taken.old.items → (text : List ℕ)
         × Appends (W.contents writer.old) (W.contents writer.new) text
-        × AnswersTold M.answers state.old asked text halt.0 state.new) }
+        × AnswersTold turn_limit M.answers state.old asked text halt.0 state.new) }
 
     // How many lines that are, and whose a write fault is.
     ensures count { IfOk result (λ count. count + length taken.new.items ≡ length taken.old.items) }
@@ -350,7 +341,7 @@ fn answer_taken<
     let_go: &H,
     writer: &mut W,
     taken: &mut VecDeque<Option<P>>,
-) -> Result<u64, (u64, Stop)>
+) -> Result<u64, (u64, Stop<Infallible>)>
     // What `answer`, `tell` and `let_go` do, which are handed in.
     requires callable { AnswersWithin F.Fn answer.now K.spent K.answered }
     requires answers { AnswersReadBy F.Fn answer.now M.reads M.text M.answers }
@@ -375,7 +366,7 @@ fn answer_taken<
         × AnswersAll M.answers state.old asked text count state.new) }
     ensures err { IfErr result (λ halt. (asked : List (List ℕ)) → AreTaken M.reads asked taken.old.items → (text : List ℕ)
         × Appends (W.contents writer.old) (W.contents writer.new) text
-        × AnswersTold M.answers state.old asked text halt.0 state.new) }
+        × AnswersTold turn_limit M.answers state.old asked text halt.0 state.new) }
 
     // A write fault is the writer's.
     ensures failed { IfErr result (λ halt. halt.1 ≡ Stop.WriteFault → W.failed writer.new ≡ true) }
@@ -392,8 +383,19 @@ fn answer_taken<
     Ok(answered)
 }
 
-// Takes the line that was read last and those that lie ahead, up to the limit of a turn, and answers them.
-fn serve_turn<
+// Turns of the lines that lie ahead, by the functions that are handed in.
+#[derive(Drop)]
+struct LinesAhead<'a, M, P, Q, G, F, T, H> {
+    alloc: Global,
+    parse: &'a G,
+    answer: &'a F,
+    tell: &'a T,
+    let_go: &'a H,
+    of: PhantomData<(M, P, Q)>,
+}
+
+impl<
+    'a,
     M: Machine<S> + Asks<P> + Tells<Q>,
     S,
     K: Holds,
@@ -404,55 +406,47 @@ fn serve_turn<
     T: Fn(&K, Q) -> Result<Vec<u8>, AllocError>,
     H: Fn(&mut K),
     W: Sends<K>,
->(
-    alloc: Global,
-    state: &mut S,
-    hold: &mut K,
-    parse: &G,
-    answer: &F,
-    tell: &T,
-    let_go: &H,
-    writer: &mut W,
-    buffer: &mut LineBuffer,
-    line: Line,
-) -> Result<u64, (u64, Stop)>
-    // What `parse`, `answer`, `tell` and `let_go` do, which are handed in.
-    requires readable { G.IsAlwaysCallable parse.now }
-    requires reads { ReadsBy G.Fn parse.now M.reads }
-    requires callable { AnswersWithin F.Fn answer.now K.spent K.answered }
-    requires answers { AnswersReadBy F.Fn answer.now M.reads M.text M.answers }
-    requires spends { CountsCost F.Fn answer.now K.spent K.answered }
-    requires tellable { TellsWhileFree T.Fn tell.now K.held }
-    requires tells { TellsBy T.Fn tell.now M.text }
-    requires let_go_at_any_time { H.IsAlwaysCallable let_go.now }
-    requires lets_go { LetsGo H.Fn let_go.now K.held K.spent K.answered }
+> Turns<S, K, W, Infallible> for LinesAhead<'a, M, P, Q, G, F, T, H> {
+    ghost use Rattle.wb_lines.specs.TurnLaws.{told_turns};
 
-    // Nothing is held or spent, before and afterwards.
-    requires free { K.held hold.old ≡ false }
-    requires unspent { IsUnspent K.spent K.answered hold.old }
-    ensures free { K.held hold.new ≡ false }
-    ensures unspent { IsUnspent K.spent K.answered hold.new }
+    // What `parse`, `answer`, `tell` and `let_go` do.
+    ghost ready = { λ turns. G.IsAlwaysCallable turns.parse.now × ReadsBy G.Fn turns.parse.now M.reads
+        × AnswersWithin F.Fn turns.answer.now K.spent K.answered × AnswersReadBy F.Fn turns.answer.now M.reads M.text M.answers
+        × CountsCost F.Fn turns.answer.now K.spent K.answered
+        × TellsWhileFree T.Fn turns.tell.now K.held × TellsBy T.Fn turns.tell.now M.text
+        × H.IsAlwaysCallable turns.let_go.now × LetsGo H.Fn turns.let_go.now K.held K.spent K.answered };
 
-    // What was answered and sent, of the line and those that lay ahead.
-    ensures ok { IfOk result (λ count. (first : List ℕ) → IsText line buffer.old.line first → (more : List (List ℕ))
-        × TakesLines buffer.old buffer.new more
-        × ((text : List ℕ) × Appends (W.contents writer.old) (W.contents writer.new) text
-        × AnswersAll M.answers state.old (first ∷ more) text count state.new)) }
-    ensures err { IfErr result (λ halt. (first : List ℕ) → IsText line buffer.old.line first → (more : List (List ℕ))
-        × TakesLines buffer.old buffer.new more
-        × ((text : List ℕ) × Appends (W.contents writer.old) (W.contents writer.new) text
-        × AnswersTold M.answers state.old (first ∷ more) text halt.0 state.new)) }
+    ghost rests = { λ state. Unit {0} };
 
-    // A write fault is the writer's.
-    ensures failed { IfErr result (λ halt. halt.1 ≡ Stop.WriteFault → W.failed writer.new ≡ true) }
-{
-    let mut turn = VecDeque::new(alloc);
-    if take_turn::<M, P, G>(buffer, parse, line, &mut turn).is_err() {
-        return Err((0, Stop::NoMemory));
+    ghost goes = { AnswersAll M.answers };
+
+    ghost halts = { λ stop. AnswersTold turn_limit M.answers };
+
+    fn serve_turn(
+        &self,
+        state: &mut S,
+        hold: &mut K,
+        writer: &mut W,
+        buffer: &mut LineBuffer,
+        line: Line,
+    ) -> Result<u64, (u64, Stop<Infallible>)> {
+        let mut turn = VecDeque::new(self.alloc);
+        if take_turn::<M, P, G>(buffer, self.parse, line, &mut turn).is_err() {
+            return Err((0, Stop::NoMemory));
+        }
+        answer_taken::<M, S, K, P, Q, F, T, H, W>(
+            self.alloc,
+            state,
+            hold,
+            self.answer,
+            self.tell,
+            self.let_go,
+            writer,
+            &mut turn,
+        )
     }
-    answer_taken::<M, S, K, P, Q, F, T, H, W>(
-        alloc, state, hold, answer, tell, let_go, writer, &mut turn,
-    )
+
+    ghost turns = { told_turns turn_limit M.answers };
 }
 
 /// Answers each line that is read, in order, until the end of input or a fault. Lines that lie ahead are first read, each by
@@ -509,43 +503,16 @@ pub fn serve_turns<
     ensures read { ReadsUntil result (R.remaining reader.new) (R.failed reader.new) (R.reads reader.old) (R.reads reader.new) }
     ensures written { WritesUntil result (W.flushed writer.new) (W.failed writer.new) }
 {
-    let mut buffer = LineBuffer::new(alloc);
-    let mut answered = 0;
-    'turns: loop {
-        if flush_before_wait(writer, hold, &buffer).is_err() {
-            return SessionEnd::WriteFault(answered);
-        }
-        match next_line(reader, writer, hold, &mut buffer) {
-            Ok(Line::End) => return SessionEnd::Done(answered),
-            Ok(line) => {
-                match serve_turn::<M, S, K, P, Q, G, F, T, H, W>(
-                    alloc,
-                    state,
-                    hold,
-                    parse,
-                    answer,
-                    tell,
-                    let_go,
-                    writer,
-                    &mut buffer,
-                    line,
-                ) {
-                    Ok(count) => answered += count,
-                    Err((count, Stop::WriteFault)) => {
-                        return SessionEnd::WriteFault(answered + count);
-                    }
-                    Err((count, Stop::NoMemory)) => {
-                        flush_at_fault(writer, hold);
-                        return SessionEnd::NoMemory(answered + count);
-                    }
-                }
-            }
-            Err(LineFault::ReadFault) => return SessionEnd::ReadFault(answered),
-            Err(LineFault::TooManyReads) => return SessionEnd::TooManyReads(answered),
-            Err(LineFault::NoMemory) => {
-                flush_at_fault(writer, hold);
-                return SessionEnd::NoMemory(answered);
-            }
-        }
+    let turns: LinesAhead<'_, M, P, Q, G, F, T, H> = LinesAhead {
+        alloc,
+        parse,
+        answer,
+        tell,
+        let_go,
+        of: PhantomData,
+    };
+    match serve(alloc, &turns, state, hold, reader, writer) {
+        Ok(end) => end,
+        Err((_, never)) => match never {},
     }
 }

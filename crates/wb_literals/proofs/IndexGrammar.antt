@@ -30,31 +30,31 @@ integer_reads = record {
 -- ---- grids
 
 abbrev third_extent : ℤ → ℤ → ℤ → List ℕ → Option (GridLiteral × List ℕ)
-third_extent i j k bytes = option_map {U = GridLiteral × List ℕ} (λ (z : List ℕ). (grids.Solid i j k, z)) (close_at (codes "]") bytes)
+third_extent i j k bytes = option_map {U = GridLiteral × List ℕ} (λ (z : List ℕ). (grids.Rank3 i j k, z)) (close_at (codes "]") bytes)
 
 pub grid_found : (bytes rest : List ℕ) (y : GridLiteral) → grid_at bytes ≡ Some (y, rest) → Found IsGrid bytes y rest
 grid_found bytes rest y e = enclosed_found integer_at IsInteger integer_reads extents_of (λ a z. second_extent_at a z) 91 93 bytes rest y
-    (λ a z f. on_found integer_at IsInteger integer_reads extents_of 93 bracket (next_integer_at z) (λ b w. third_extent_at a b w) (a ∷ []) (grids.Line a) y z
+    (λ a z f. on_found integer_at IsInteger integer_reads extents_of 93 bracket (next_integer_at z) (λ b w. third_extent_at a b w) (a ∷ []) (grids.Rank1 a) y z
     rest refl refl
-    (λ b w g. on_found integer_at IsInteger integer_reads extents_of 93 bracket (next_integer_at w) (third_extent a b) (a ∷ b ∷ []) (grids.Plane a b) y w rest
+    (λ b w g. on_found integer_at IsInteger integer_reads extents_of 93 bracket (next_integer_at w) (third_extent a b) (a ∷ b ∷ []) (grids.Rank2 a b) y w rest
     refl refl
-    (λ c u h. last_found integer_at IsInteger integer_reads extents_of 93 bracket (a ∷ b ∷ c ∷ []) y (grids.Solid a b c) u rest refl h) g) f) e
+    (λ c u h. last_found integer_at IsInteger integer_reads extents_of 93 bracket (a ∷ b ∷ c ∷ []) y (grids.Rank3 a b c) u rest refl h) g) f) e
 
 pub grid_read : (text rest : List ℕ) (y : GridLiteral) → IsGrid text y → grid_at (text ++ rest) ≡ Some (y, rest)
-grid_read text rest (grids.Line a) h = enclosed_read integer_at IsInteger integer_reads (λ a z. second_extent_at a z) 91 93 text rest a [] (grids.Line a)
+grid_read text rest (grids.Rank1 a) h = enclosed_read integer_at IsInteger integer_reads (λ a z. second_extent_at a z) 91 93 text rest a [] (grids.Rank1 a)
     (λ z. refl) bracket h
-    (λ b t m s. ends_read integer_at IsInteger integer_reads extents_of 93 bracket (λ b w. third_extent_at a b w) (grids.Line a) b t rest m s)
-grid_read text rest (grids.Plane a b) h = enclosed_read integer_at IsInteger integer_reads (λ a z. second_extent_at a z) 91 93 text rest a (b ∷ [])
-    (grids.Plane a b) (λ z. refl) bracket h
-    (λ v t m s. goes_read integer_at IsInteger integer_reads extents_of 93 bracket (λ b w. third_extent_at a b w) (grids.Line a) (grids.Plane a b) v t rest b
+    (λ b t m s. ends_read integer_at IsInteger integer_reads extents_of 93 bracket (λ b w. third_extent_at a b w) (grids.Rank1 a) b t rest m s)
+grid_read text rest (grids.Rank2 a b) h = enclosed_read integer_at IsInteger integer_reads (λ a z. second_extent_at a z) 91 93 text rest a (b ∷ [])
+    (grids.Rank2 a b) (λ z. refl) bracket h
+    (λ v t m s. goes_read integer_at IsInteger integer_reads extents_of 93 bracket (λ b w. third_extent_at a b w) (grids.Rank1 a) (grids.Rank2 a b) v t rest b
     [] m s
-    (λ w n. ends_read integer_at IsInteger integer_reads extents_of 93 bracket (third_extent a b) (grids.Plane a b) w t rest n s))
-grid_read text rest (grids.Solid a b c) h = enclosed_read integer_at IsInteger integer_reads (λ a z. second_extent_at a z) 91 93 text rest a (b ∷ c ∷ [])
-    (grids.Solid a b c) (λ z. refl) bracket h
-    (λ v t m s. goes_read integer_at IsInteger integer_reads extents_of 93 bracket (λ b w. third_extent_at a b w) (grids.Line a) (grids.Solid a b c) v t rest b
+    (λ w n. ends_read integer_at IsInteger integer_reads extents_of 93 bracket (third_extent a b) (grids.Rank2 a b) w t rest n s))
+grid_read text rest (grids.Rank3 a b c) h = enclosed_read integer_at IsInteger integer_reads (λ a z. second_extent_at a z) 91 93 text rest a (b ∷ c ∷ [])
+    (grids.Rank3 a b c) (λ z. refl) bracket h
+    (λ v t m s. goes_read integer_at IsInteger integer_reads extents_of 93 bracket (λ b w. third_extent_at a b w) (grids.Rank1 a) (grids.Rank3 a b c) v t rest b
     (c ∷ []) m s
-    (λ w n. goes_read integer_at IsInteger integer_reads extents_of 93 bracket (third_extent a b) (grids.Plane a b) (grids.Solid a b c) w t rest c [] n s
-    (λ u o. end_read integer_at IsInteger integer_reads extents_of 93 bracket (grids.Solid a b c) u t rest o s)))
+    (λ w n. goes_read integer_at IsInteger integer_reads extents_of 93 bracket (third_extent a b) (grids.Rank2 a b) (grids.Rank3 a b c) w t rest c [] n s
+    (λ u o. end_read integer_at IsInteger integer_reads extents_of 93 bracket (grids.Rank3 a b c) u t rest o s)))
 
 -- ---- indices
 

@@ -6,7 +6,7 @@ use Rattle.wb_literals.specs.Rectangle.{next_range_at, third_range_at, second_ra
 use Rattle.wb_literals.specs.Grammar.{IsRange, ranges_of, IsRectangle}
 use Rattle.wb_literals.specs.declared.range.RangeLiteral.{RangeLiteral}
 use Rattle.wb_literals.specs.declared.rectangle.RectangleLiteral.{RectangleLiteral}
-use Rattle.wb_literals.specs.declared.rectangle.RectangleLiteral.TheVariants.{Line, Plane, Solid}
+use Rattle.wb_literals.specs.declared.rectangle.RectangleLiteral.TheVariants.{Rank1, Rank2, Rank3}
 use Rattle.wb_literals.proofs.Exact.{exact}
 use Rattle.wb_literals.proofs.RangeGrammar.{Found, integer_starts, starts_unspaced, range_found, range_read}
 use Rattle.wb_literals.proofs.TokenLemmas.{NoSpace}
@@ -21,27 +21,27 @@ range_reads : Reads range_at IsRange
 range_reads = record { found = range_found; read = range_read; unspaced = range_unspaced }
 
 abbrev third : RangeLiteral → RangeLiteral → RangeLiteral → List ℕ → Option (RectangleLiteral × List ℕ)
-third a b c bytes = option_map {U = RectangleLiteral × List ℕ} (λ (z : List ℕ). (Solid a b c, z)) (close_at (codes "}") bytes)
+third a b c bytes = option_map {U = RectangleLiteral × List ℕ} (λ (z : List ℕ). (Rank3 a b c, z)) (close_at (codes "}") bytes)
 
 pub rectangle_found : (bytes rest : List ℕ) (y : RectangleLiteral) → rectangle_at bytes ≡ Some (y, rest) → Found IsRectangle bytes y rest
 rectangle_found bytes rest y e = enclosed_found range_at IsRange range_reads ranges_of (λ a z. second_range_at a z) 123 125 bytes rest y
-    (λ a z f. on_found range_at IsRange range_reads ranges_of 125 brace (next_range_at z) (λ b w. third_range_at a b w) (a ∷ []) (Line a) y z rest refl refl
-    (λ b w g. on_found range_at IsRange range_reads ranges_of 125 brace (next_range_at w) (third a b) (a ∷ b ∷ []) (Plane a b) y w rest refl refl
-    (λ c u h. last_found range_at IsRange range_reads ranges_of 125 brace (a ∷ b ∷ c ∷ []) y (Solid a b c) u rest refl h) g) f) e
+    (λ a z f. on_found range_at IsRange range_reads ranges_of 125 brace (next_range_at z) (λ b w. third_range_at a b w) (a ∷ []) (Rank1 a) y z rest refl refl
+    (λ b w g. on_found range_at IsRange range_reads ranges_of 125 brace (next_range_at w) (third a b) (a ∷ b ∷ []) (Rank2 a b) y w rest refl refl
+    (λ c u h. last_found range_at IsRange range_reads ranges_of 125 brace (a ∷ b ∷ c ∷ []) y (Rank3 a b c) u rest refl h) g) f) e
 
 pub rectangle_read : (text rest : List ℕ) (y : RectangleLiteral) → IsRectangle text y → rectangle_at (text ++ rest) ≡ Some (y, rest)
-rectangle_read text rest (Line a) h = enclosed_read range_at IsRange range_reads (λ a z. second_range_at a z) 123 125 text rest a [] (Line a) (λ z. refl) brace
+rectangle_read text rest (Rank1 a) h = enclosed_read range_at IsRange range_reads (λ a z. second_range_at a z) 123 125 text rest a [] (Rank1 a) (λ z. refl) brace
     h
-    (λ b t m s. ends_read range_at IsRange range_reads ranges_of 125 brace (λ b w. third_range_at a b w) (Line a) b t rest m s)
-rectangle_read text rest (Plane a b) h = enclosed_read range_at IsRange range_reads (λ a z. second_range_at a z) 123 125 text rest a (b ∷ []) (Plane a b)
+    (λ b t m s. ends_read range_at IsRange range_reads ranges_of 125 brace (λ b w. third_range_at a b w) (Rank1 a) b t rest m s)
+rectangle_read text rest (Rank2 a b) h = enclosed_read range_at IsRange range_reads (λ a z. second_range_at a z) 123 125 text rest a (b ∷ []) (Rank2 a b)
     (λ z. refl) brace h
-    (λ v t m s. goes_read range_at IsRange range_reads ranges_of 125 brace (λ b w. third_range_at a b w) (Line a) (Plane a b) v t rest b [] m s
-    (λ w n. ends_read range_at IsRange range_reads ranges_of 125 brace (third a b) (Plane a b) w t rest n s))
-rectangle_read text rest (Solid a b c) h = enclosed_read range_at IsRange range_reads (λ a z. second_range_at a z) 123 125 text rest a (b ∷ c ∷ [])
-    (Solid a b c) (λ z. refl) brace h
-    (λ v t m s. goes_read range_at IsRange range_reads ranges_of 125 brace (λ b w. third_range_at a b w) (Line a) (Solid a b c) v t rest b (c ∷ []) m s
-    (λ w n. goes_read range_at IsRange range_reads ranges_of 125 brace (third a b) (Plane a b) (Solid a b c) w t rest c [] n s
-    (λ u o. end_read range_at IsRange range_reads ranges_of 125 brace (Solid a b c) u t rest o s)))
+    (λ v t m s. goes_read range_at IsRange range_reads ranges_of 125 brace (λ b w. third_range_at a b w) (Rank1 a) (Rank2 a b) v t rest b [] m s
+    (λ w n. ends_read range_at IsRange range_reads ranges_of 125 brace (third a b) (Rank2 a b) w t rest n s))
+rectangle_read text rest (Rank3 a b c) h = enclosed_read range_at IsRange range_reads (λ a z. second_range_at a z) 123 125 text rest a (b ∷ c ∷ [])
+    (Rank3 a b c) (λ z. refl) brace h
+    (λ v t m s. goes_read range_at IsRange range_reads ranges_of 125 brace (λ b w. third_range_at a b w) (Rank1 a) (Rank3 a b c) v t rest b (c ∷ []) m s
+    (λ w n. goes_read range_at IsRange range_reads ranges_of 125 brace (third a b) (Rank2 a b) (Rank3 a b c) w t rest c [] n s
+    (λ u o. end_read range_at IsRange range_reads ranges_of 125 brace (Rank3 a b c) u t rest o s)))
 
 pub rectangle_exact : (text : List ℕ) (r : RectangleLiteral) → (rectangle_of text ≡ Some r) ↔ IsRectangle text r
 rectangle_exact = exact rectangle_at IsRectangle rectangle_found (λ text r h. rectangle_read text [] r h)

@@ -15,7 +15,7 @@ use Rattle.wb_literals.specs.declared.index.GridLiteral.{GridLiteral}
 use Rattle.wb_literals.specs.declared.index.GridLiteral.TheVariants as grids
 use Rattle.wb_literals.specs.declared.mapping.MappingLiteral.{MappingLiteral}
 use Rattle.wb_literals.specs.declared.mapping.MappingLiteral.TheVariants as mappings
-use Rattle.wb_literals.specs.declared.rectangle.RectangleLiteral.TheVariants.{Line, Plane, Solid}
+use Rattle.wb_literals.specs.declared.rectangle.RectangleLiteral.TheVariants.{Rank1, Rank2, Rank3}
 
 -- any number of spaces, which may stand between two tokens
 abbrev pub AreSpaces : List ℕ → Type 0
@@ -65,9 +65,9 @@ abbrev pub IsEnclosed : {X : Type 0} → List ℕ → List ℕ → (List ℕ →
 IsEnclosed left right Item text xs = (s x t : List ℕ) × AreSpaces s × AreListed Item x xs × AreSpaces t × (text ≡ left ++ (s ++ (x ++ (t ++ right))))
 
 abbrev pub ranges_of : RectangleLiteral → List RangeLiteral
-ranges_of (Line a) = a ∷ []
-ranges_of (Plane a b) = a ∷ b ∷ []
-ranges_of (Solid a b c) = a ∷ b ∷ c ∷ []
+ranges_of (Rank1 a) = a ∷ []
+ranges_of (Rank2 a b) = a ∷ b ∷ []
+ranges_of (Rank3 a b c) = a ∷ b ∷ c ∷ []
 
 -- 1 to 3 ranges in braces (Chapel Language Specification, Domains)
 abbrev pub IsRectangle : List ℕ → RectangleLiteral → Type 0
@@ -111,9 +111,9 @@ IsDomain text (rectangle r) = IsRectangle text r
 IsDomain text (set x) = IsSet text x
 
 abbrev pub extents_of : GridLiteral → List ℤ
-extents_of (grids.Line n) = n ∷ []
-extents_of (grids.Plane n m) = n ∷ m ∷ []
-extents_of (grids.Solid n m l) = n ∷ m ∷ l ∷ []
+extents_of (grids.Rank1 n) = n ∷ []
+extents_of (grids.Rank2 n m) = n ∷ m ∷ []
+extents_of (grids.Rank3 n m l) = n ∷ m ∷ l ∷ []
 
 -- 1 to 3 integers in brackets
 abbrev pub IsGrid : List ℕ → GridLiteral → Type 0

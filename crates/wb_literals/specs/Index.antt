@@ -25,12 +25,12 @@ abbrev pub index_at : List ℕ → Option (IndexLiteral × List ℕ)
 index_at bytes = option_map_or tuple_at (after_token (codes "(") bytes) (option_map (λ i. (indices.Integer i.0, i.1)) (integer_at bytes))
 
 abbrev pub third_extent_at : ℤ → ℤ → List ℕ → Option (GridLiteral × List ℕ)
-third_extent_at i j bytes = option_map_or (λ k. option_map (λ rest. (grids.Solid i j k.0, rest)) (close_at (codes "]") k.1)) (next_integer_at bytes)
-    (option_map (λ rest. (grids.Plane i j, rest)) (close_at (codes "]") bytes))
+third_extent_at i j bytes = option_map_or (λ k. option_map (λ rest. (grids.Rank3 i j k.0, rest)) (close_at (codes "]") k.1)) (next_integer_at bytes)
+    (option_map (λ rest. (grids.Rank2 i j, rest)) (close_at (codes "]") bytes))
 
 abbrev pub second_extent_at : ℤ → List ℕ → Option (GridLiteral × List ℕ)
 second_extent_at i bytes = option_map_or (λ j. third_extent_at i j.0 j.1) (next_integer_at bytes)
-    (option_map (λ rest. (grids.Line i, rest)) (close_at (codes "]") bytes))
+    (option_map (λ rest. (grids.Rank1 i, rest)) (close_at (codes "]") bytes))
 
 -- 1 to 3 integers in brackets
 abbrev pub grid_at : List ℕ → Option (GridLiteral × List ℕ)

@@ -20,11 +20,11 @@ pub enum IndexLiteral {
 #[derive(Clone, Copy, Debug, PartialEq, Eq)]
 pub enum GridLiteral {
     /// `[n]`
-    Line(i64),
+    Rank1(i64),
     /// `[n, m]`
-    Plane(i64, i64),
+    Rank2(i64, i64),
     /// `[n, m, l]`
-    Solid(i64, i64, i64),
+    Rank3(i64, i64, i64),
 }
 
 // A further integer, after a comma.
@@ -71,10 +71,10 @@ fn third_extent_at(i: i64, j: i64, bytes: &[u8]) -> Option<(GridLiteral, &[u8])>
 {
     if let Some((k, rest)) = next_integer_at(bytes) {
         let rest = close_at(b"]", rest)?;
-        return Some((GridLiteral::Solid(i, j, k), rest));
+        return Some((GridLiteral::Rank3(i, j, k), rest));
     }
     let rest = close_at(b"]", bytes)?;
-    Some((GridLiteral::Plane(i, j), rest))
+    Some((GridLiteral::Rank2(i, j), rest))
 }
 
 fn second_extent_at(i: i64, bytes: &[u8]) -> Option<(GridLiteral, &[u8])>
@@ -84,7 +84,7 @@ fn second_extent_at(i: i64, bytes: &[u8]) -> Option<(GridLiteral, &[u8])>
         return third_extent_at(i, j, rest);
     }
     let rest = close_at(b"]", bytes)?;
-    Some((GridLiteral::Line(i), rest))
+    Some((GridLiteral::Rank1(i), rest))
 }
 
 /// The grid at the front, and what follows it.

@@ -10,9 +10,9 @@ use crate::tokens::{after_token, close_at, comma_at};
 /// A rectangle as it is spelled, of rank 1, 2 or 3.
 #[derive(Clone, Copy, Debug, PartialEq, Eq)]
 pub enum RectangleLiteral {
-    Line(RangeLiteral),
-    Plane(RangeLiteral, RangeLiteral),
-    Solid(RangeLiteral, RangeLiteral, RangeLiteral),
+    Rank1(RangeLiteral),
+    Rank2(RangeLiteral, RangeLiteral),
+    Rank3(RangeLiteral, RangeLiteral, RangeLiteral),
 }
 
 fn next_range_at(bytes: &[u8]) -> Option<(RangeLiteral, &[u8])>
@@ -31,10 +31,10 @@ fn third_range_at(
 {
     if let Some((c, rest)) = next_range_at(bytes) {
         let rest = close_at(b"}", rest)?;
-        return Some((RectangleLiteral::Solid(a, b, c), rest));
+        return Some((RectangleLiteral::Rank3(a, b, c), rest));
     }
     let rest = close_at(b"}", bytes)?;
-    Some((RectangleLiteral::Plane(a, b), rest))
+    Some((RectangleLiteral::Rank2(a, b), rest))
 }
 
 fn second_range_at(a: RangeLiteral, bytes: &[u8]) -> Option<(RectangleLiteral, &[u8])>
@@ -44,7 +44,7 @@ fn second_range_at(a: RangeLiteral, bytes: &[u8]) -> Option<(RectangleLiteral, &
         return third_range_at(a, b, rest);
     }
     let rest = close_at(b"}", bytes)?;
-    Some((RectangleLiteral::Line(a), rest))
+    Some((RectangleLiteral::Rank1(a), rest))
 }
 
 /// The rectangle at the front, and what follows it.

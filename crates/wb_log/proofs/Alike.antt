@@ -1,5 +1,5 @@
 -- Lists of patterns that name the same places and cells.
-use Rattle.std.proofs.Common.{◌≡◌, ◌≢◌, ℕ, ◌==◌, Bool, true, false, ◌||◌, if◌then◌else◌, List, [], ◌∷◌, ◌++◌, Option, Some, None, arith, refl, sym, ap, subst, ◌∙◌}
+use Rattle.std.proofs.Common.{◌≡◌, ◌≢◌, ℕ, ◌==◌, Bool, true, false, ◌||◌, if◌then◌else◌, List, [], ◌∷◌, ◌++◌, Option, Some, arith, refl, sym, ap, subst, ◌∙◌}
 use Rattle.std.specs.List.{list_any}
 use Rattle.std.proofs.lemmas.Bool.Decides.{nat_tests}
 use Rattle.std.proofs.lemmas.List.{append-nil}
@@ -17,7 +17,7 @@ use Rattle.wb_cells.specs.declared.reads.ReadRun.{ReadRun}
 use Rattle.wb_cells.specs.Reads.{patterns_of, all_read}
 use Rattle.wb_cells.specs.Schema.{workbook}
 use Rattle.wb_footprints.specs.declared.foot_index.FootIndex.{FootIndex}
-use Rattle.wb_footprints.specs.declared.place.Place.{Place}
+use Rattle.wb_footprints.specs.declared.places.place.Place.{Place}
 use Rattle.wb_footprints.specs.Footprints.{Footprints, IsIndexOf, footprint, with_footprint, read_at, touched_by, read_by}
 use Rattle.wb_footprints.specs.Places.{place_of, is_same_place}
 use Rattle.wb_log.specs.Sets.{each_read, cells_in, AreCells, NameAlike}

@@ -1,7 +1,7 @@
 -- Dependents by what is kept are those of the traces.
 use Rattle.std.proofs.Common.{◌≡◌, ℕ, zero, suc, true, false, List, [], ◌∷◌, Option, Some, None, slice_get, arith, refl, sym, ap, ◌∙◌}
 use Rattle.selective_undo.specs.Edit.{Trace, Needs, needs}
-use Rattle.selective_undo.specs.History.{undone, traces, Blocks, InForce, Dependent, Has}
+use Rattle.selective_undo.specs.History.{traces, Blocks, Dependent}
 use Rattle.selective_undo.specs.History as h
 use Rattle.selective_undo.specs.Log.{footprint_of, footprints, blocks_undo, meets_any}
 use Rattle.selective_undo.proofs.Locality.{needs_true, needs_false}

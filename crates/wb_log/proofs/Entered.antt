@@ -12,7 +12,7 @@ use Rattle.wb_footprints.specs.Footprints.{Footprints, IsIndexOf, with_footprint
 use Rattle.wb_footprints.specs.Relation.{IsLeastAfter, IsGreatest}
 use Rattle.wb_log.specs.declared.entry.Entry as kept
 use Rattle.wb_log.specs.declared.index.Index.{Index}
-use Rattle.wb_log.specs.declared.refusal.Refusal.{Refusal}
+use Rattle.wb_edit.specs.declared.refusal.Refusal.{Refusal}
 use Rattle.wb_log.specs.Kept.{kept_in, kept_all, footprint_at_number, by_number, IsLatest, TakenBack}
 use Rattle.wb_log.specs.Indexed.{up_to, Indexes, IsIndexed}
 use Rattle.wb_log.proofs.Entries.{set_same}

@@ -15,8 +15,8 @@ use Rattle.wb_edit.specs.declared.planning.PlanErr.{PlanErr}
 use Rattle.wb_edit.specs.declared.planning.PlanErr.TheVariants.{Refused as PlanRefused, NoMemory as PlanNoMemory}
 use Rattle.wb_log.specs.declared.entry.Entry as kept
 use Rattle.wb_log.specs.declared.entry.Kept.{Kept}
-use Rattle.wb_log.specs.declared.refusal.Refusal.{Refusal}
-use Rattle.wb_log.specs.declared.refusal.Refusal.TheVariants.{NotInForce, Blocked, NoMemory}
+use Rattle.wb_edit.specs.declared.refusal.Refusal.{Refusal}
+use Rattle.wb_edit.specs.declared.refusal.Refusal.TheVariants.{NotInForce, Blocked, NoMemory}
 use Rattle.wb_log.specs.Past.{entry_at, out_of_force}
 use Rattle.wb_log.specs.Replies.{UndoReply, EditReply}
 use Rattle.wb_log.specs.Kept.{footprint, kept_in, kept_all, logged, log, Shows, numbered, numbered_entries, entries_meant, undo_blocker, MayUndo, TakenBack}

@@ -9,7 +9,7 @@ use Rattle.selective_undo.proofs.Undo.{undo_law}
 use Rattle.wb_cells.specs.Cells.{Cells}
 use Rattle.wb_cells.specs.Schema.{workbook}
 use Rattle.wb_log.specs.declared.entry.Entry as kept
-use Rattle.wb_log.specs.declared.refusal.Refusal.{Refusal}
+use Rattle.wb_edit.specs.declared.refusal.Refusal.{Refusal}
 use Rattle.wb_log.specs.Past.{Numbered, meant, entry_at, out_of_force, into_force}
 use Rattle.wb_log.specs.Replies.{UndoReply, LastReply, RedoReply, SetsBack, LeavesOthers, Restores, RedoesInPlace}
 use Rattle.wb_log.specs.Kept.{Shows, numbered_entries, entries_meant}

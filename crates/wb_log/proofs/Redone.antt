@@ -19,8 +19,8 @@ use Rattle.wb_edit.specs.declared.planning.PlanErr.{PlanErr}
 use Rattle.wb_edit.specs.declared.planning.PlanErr.TheVariants.{Refused as PlanRefused, NoMemory as PlanNoMemory}
 use Rattle.wb_log.specs.declared.entry.Entry as kept
 use Rattle.wb_log.specs.declared.entry.Kept.{Kept}
-use Rattle.wb_log.specs.declared.refusal.Refusal.{Refusal}
-use Rattle.wb_log.specs.declared.refusal.Refusal.TheVariants.{InForce, Blocked, RefusedInPlace, NoMemory}
+use Rattle.wb_edit.specs.declared.refusal.Refusal.{Refusal}
+use Rattle.wb_edit.specs.declared.refusal.Refusal.TheVariants.{InForce, Blocked, RefusedInPlace, NoMemory}
 use Rattle.wb_log.specs.Past.{entry_at, into_force, force_of}
 use Rattle.wb_log.specs.Replies.{RedoReply, ByNumber}
 use Rattle.wb_log.specs.Kept.{footprint, kept_all, logged, log, Shows, numbered, numbered_entries, entries_meant, redo_blocker, in_place, stopped_refusal}

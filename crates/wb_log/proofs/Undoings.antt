@@ -7,12 +7,12 @@ use Rattle.std.proofs.lemmas.List.{take-append-drop}
 use Rattle.selective_undo.specs.Edit.{Trace}
 use Rattle.selective_undo.specs.History.{Entry, undo, traces, InForce, CanUndo, CanUndoAll}
 use Rattle.selective_undo.proofs.Log.{append-map, get-map, trace_there}
-use Rattle.wb_cells.specs.Cells.{written_more}
+use Rattle.wb_cells.specs.Cells.{saturating_add}
 use Rattle.wb_cells.specs.Schema.{workbook}
 use Rattle.wb_edit.specs.Edits.{meaning}
 use Rattle.wb_log.specs.declared.entry.Entry as kept
-use Rattle.wb_log.specs.declared.refusal.Refusal.{Refusal}
-use Rattle.wb_log.specs.declared.refusal.Refusal.TheVariants.{NotInForce, NoMemory}
+use Rattle.wb_edit.specs.declared.refusal.Refusal.{Refusal}
+use Rattle.wb_edit.specs.declared.refusal.Refusal.TheVariants.{NotInForce, NoMemory}
 use Rattle.wb_log.specs.Past.{Numbered, meant, entry_at, out_of_force, AreValid}
 use Rattle.wb_log.specs.Replies.{UndoReply}
 use Rattle.wb_log.specs.Kept.{numbered_entries, numbered, entries_meant, log, footprint, by_number, Shows}
@@ -53,26 +53,26 @@ capped c n m =
     let d = sub-add-min_cancel (c + n) m in
     omega (arith, a, b, d)
 
-more_written : (w c n : ℕ) → written_more (written_more w c) n ≡ written_more w (c + n)
+more_written : (w c n : ℕ) → saturating_add (saturating_add w c) n ≡ saturating_add w (c + n)
 more_written w c n =
     let m = 2 ^ 128 - 1 in
     let sum : (w + c) + n ≡ w + (c + n) = omega arith in
     capped (w + c) n m ∙ ap (λ (k : ℕ). min k m) sum
 
 -- the count of writes
-risen_more : (es : List Numbered) (ns : List ℕ) (w v u more : ℕ) → IsRisen ns w (set_back (meant es) (places ns)) v → u ≡ written_more v more →
-    u ≡ written_more w (set_back (meant es) (places ns) + more)
+risen_more : (es : List Numbered) (ns : List ℕ) (w v u more : ℕ) → IsRisen ns w (set_back (meant es) (places ns)) v → u ≡ saturating_add v more →
+    u ≡ saturating_add w (set_back (meant es) (places ns) + more)
 risen_more es [] w v u more same writes =
     let zero_c : more ≡ 0 + more = omega arith in
-    writes ∙ ap (λ (x : ℕ). written_more x more) same ∙ ap (written_more w) zero_c
-risen_more es (n ∷ ns) w v u more risen writes = writes ∙ ap (λ (x : ℕ). written_more x more) risen ∙
+    writes ∙ ap (λ (x : ℕ). saturating_add x more) same ∙ ap (saturating_add w) zero_c
+risen_more es (n ∷ ns) w v u more risen writes = writes ∙ ap (λ (x : ℕ). saturating_add x more) risen ∙
     more_written w (set_back (meant es) (places (n ∷ ns))) more
 
-risen_now : (ns : List ℕ) (n w c u : ℕ) → u ≡ written_more w c → IsRisen (ns ++ n ∷ []) w c u
+risen_now : (ns : List ℕ) (n w c u : ℕ) → u ≡ saturating_add w c → IsRisen (ns ++ n ∷ []) w c u
 risen_now [] n w c u is = is
 risen_now (m ∷ ns) n w c u is = is
 
-pub risen_some : (ns : List ℕ) (w c v : ℕ) → ns ≢ [] → IsRisen ns w c v → v ≡ written_more w c
+pub risen_some : (ns : List ℕ) (w c v : ℕ) → ns ≢ [] → IsRisen ns w c v → v ≡ saturating_add w c
 risen_some [] w c v some risen = absurd (some refl)
 risen_some (n ∷ ns) w c v some risen = risen
 
@@ -81,7 +81,7 @@ none_undone es w = record { granted = tt; left = refl; count = refl; writes = re
 
 pub one_undone : (es fs gs : List Numbered) (w n v m u number more : ℕ) (ns : List ℕ) → AreUndone es w ns fs n v →
     UndoReply (meant fs) (number - 1) (Ok more) → gs ≡ out_of_force (number - 1) fs
-    → m ≡ min (n + more) (2 ^ 64 - 1) → u ≡ written_more v more → AreUndone es w (ns ++ number ∷ []) gs m u
+    → m ≡ min (n + more) (2 ^ 64 - 1) → u ≡ saturating_add v more → AreUndone es w (ns ++ number ∷ []) gs m u
 one_undone es fs gs w n v m u number more ns h reply out count writes =
     let k = number - 1 in
     let ks = places ns in
@@ -98,7 +98,7 @@ one_undone es fs gs w n v m u number more ns h reply out count writes =
       count = count ∙ ap (λ (c : ℕ). min (c + more) (2 ^ 64 - 1)) h.count ∙ capped (set_back (meant es) ks) more (2 ^ 64 - 1) ∙
           ap (λ (c : ℕ). min c (2 ^ 64 - 1)) (sym sum);
       writes = risen_now ns number w (set_back (meant es) (places (ns ++ number ∷ []))) u
-          (risen_more es ns w v u more h.writes writes ∙ ap (written_more w) (sym sum));
+          (risen_more es ns w v u more h.writes writes ∙ ap (saturating_add w) (sym sum));
     }
 
 pub take_more : (ns : List ℕ) (i n : ℕ) → slice_get ns i ≡ Some n → take (suc i) ns ≡ take i ns ++ n ∷ []
@@ -156,7 +156,7 @@ module _ (es : List kept.Entry) (k : ℕ) (all : List ℕ) (i w n v : ℕ) (fs :
     h.count,
   )
 
-  pub cascade_writes : v ≡ written_more w (set_back (entries_meant es) (places (take i all)))
+  pub cascade_writes : v ≡ saturating_add w (set_back (entries_meant es) (places (take i all)))
   cascade_writes = risen_some (take i all) w (set_back (entries_meant es) (places (take i all))) v (take_some all i some low) h.writes
 
 -- ---- by number

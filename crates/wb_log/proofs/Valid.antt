@@ -6,7 +6,7 @@ use Rattle.std.specs.FinMap.{empty}
 use Rattle.selective_undo.specs.Changes.{apply}
 use Rattle.selective_undo.specs.Edit.{outcome, written, step}
 use Rattle.selective_undo.specs.History.{replay, replay_from}
-use Rattle.wb_cells.specs.Cells.{Cells, Changes, Contents, count_of, written_more}
+use Rattle.wb_cells.specs.Cells.{Cells, Changes, Contents, count_of, saturating_add}
 use Rattle.wb_cells.specs.WellFormed.{IsWellFormed}
 use Rattle.wb_cells.proofs.Empty.{empty_is_well_formed}
 use Rattle.wb_edit.specs.declared.edit.Edit as command
@@ -14,7 +14,7 @@ use Rattle.wb_edit.specs.Edits.{meaning, IsValid}
 use Rattle.wb_edit.proofs.EachEdit.{keeps_well_formed}
 use Rattle.wb_log.specs.declared.entry.Entry as kept
 use Rattle.wb_log.specs.declared.entry.Kept.{Kept}
-use Rattle.wb_log.specs.declared.refusal.Refusal.{Refusal}
+use Rattle.wb_edit.specs.declared.refusal.Refusal.{Refusal}
 use Rattle.wb_log.specs.Past.{Numbered, meant, entry_at, set_force, AreValid}
 use Rattle.wb_log.specs.Kept.{Shows, numbered_entries, MayUndo, LeavesWellFormed}
 use Rattle.wb_log.proofs.Entries.{history-log, taken_kept}
@@ -70,7 +70,7 @@ pub undone_well_formed : (es : List kept.Entry) (s : Cells) (k : ℕ) (x : kept.
     MayUndo es k None → LeavesWellFormed x s
 undone_well_formed es s k x shows valid is may q has =
     let b : Contents = record { cells = s; writes = 0 } in
-    let d : Contents = record { cells = apply q.inverse s; writes = written_more 0 (count_of q.inverse) } in
+    let d : Contents = record { cells = apply q.inverse s; writes = saturating_add 0 (count_of q.inverse) } in
     let y : kept.Entry = record { edit = x.edit; kept = None } in
     let shows_after = taken_kept es k x is (count_of q.inverse) y b d shows may (q, has, refl, refl, refl, refl) in
     well_formed (slice_set es k y) (apply q.inverse s) shows_after (valid_put es k x None valid (valid_at es k x valid is))

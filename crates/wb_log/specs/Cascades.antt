@@ -6,10 +6,10 @@ use Rattle.selective_undo.specs.Edit.{Edit, Trace, writes}
 use Rattle.selective_undo.specs.History as h
 use Rattle.selective_undo.specs.History.{undone, undo, traces, replay, InForce, Dependent, CanUndo, CanUndoAll, Has, Falls}
 use Rattle.wb_cells.specs.declared.cells.cell.Cell.{Cell}
-use Rattle.wb_cells.specs.Cells.{count_of, written_more}
+use Rattle.wb_cells.specs.Cells.{count_of, saturating_add}
 use Rattle.wb_cells.specs.Schema.{workbook}
-use Rattle.wb_log.specs.declared.refusal.Refusal.{Refusal}
-use Rattle.wb_log.specs.declared.refusal.Refusal.TheVariants.{NoSuchEdit, NotInForce, NoMemory}
+use Rattle.wb_edit.specs.declared.refusal.Refusal.{Refusal}
+use Rattle.wb_edit.specs.declared.refusal.Refusal.TheVariants.{NoSuchEdit, NotInForce, NoMemory}
 use Rattle.wb_log.specs.Past.{Numbered, meant, out_of_force}
 
 -- the edit of a number, from 1, is a dependent of edit k, from 0
@@ -87,7 +87,7 @@ all_out_of_force (n ∷ ns) es = all_out_of_force ns (out_of_force (n - 1) es)
 -- the count of writes rises from w by c, if any number is there
 abbrev pub IsRisen : List ℕ → (w c v : ℕ) → Type 0
 IsRisen [] w c v = v ≡ w
-IsRisen (n ∷ ns) w c v = v ≡ written_more w c
+IsRisen (n ∷ ns) w c v = v ≡ saturating_add w c
 
 -- What undos of numbers, each granted on its own, make of the edits es with a count of writes w: the edits fs, n cells set
 -- back, and the count v.

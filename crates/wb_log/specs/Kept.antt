@@ -5,7 +5,7 @@ use Rattle.selective_undo.specs.Edit.{outcome, reads}
 use Rattle.selective_undo.specs.History as h
 use Rattle.selective_undo.specs.Log.{Footprint, Logged, IsKept, blocks_undo, blocks_redo, first_from}
 use Rattle.wb_cells.specs.declared.cells.pattern.Pattern.{Pattern}
-use Rattle.wb_cells.specs.Cells.{Cells, Changes, Contents, count_of, written_more}
+use Rattle.wb_cells.specs.Cells.{Cells, Changes, Contents, count_of, saturating_add}
 use Rattle.wb_cells.specs.WellFormed.{IsWellFormed}
 use Rattle.wb_edit.specs.declared.planning.PlanErr.{PlanErr}
 use Rattle.wb_edit.specs.declared.planning.PlanErr.TheVariants.{Refused as PlanRefused, NoMemory as PlanNoMemory}
@@ -15,8 +15,8 @@ use Rattle.wb_edit.specs.Edits.{meaning}
 use Rattle.wb_footprints.specs.Footprints.{Footprints}
 use Rattle.wb_log.specs.declared.entry.Entry as kept
 use Rattle.wb_log.specs.declared.entry.Kept.{Kept}
-use Rattle.wb_log.specs.declared.refusal.Refusal.{Refusal}
-use Rattle.wb_log.specs.declared.refusal.Refusal.TheVariants.{Refused, NotInForce, Blocked, RefusedInPlace, NoMemory}
+use Rattle.wb_edit.specs.declared.refusal.Refusal.{Refusal}
+use Rattle.wb_edit.specs.declared.refusal.Refusal.TheVariants.{Refused, NotInForce, Blocked, RefusedInPlace, NoMemory}
 use Rattle.wb_log.specs.Past.{Numbered, meant}
 
 abbrev pub footprint : List Pattern → Changes → Footprint workbook
@@ -74,7 +74,7 @@ MayUndo es k r = (x : kept.Entry) × (slice_get es k ≡ Some x) × (r ≡ undo_
 -- an entry's edit is taken back, with n cells
 abbrev pub TakenBack : kept.Entry → ℕ → kept.Entry → Contents → Contents → Type 0
 TakenBack x n y b d = (k : Kept) × (x.kept ≡ Some k) × (n ≡ count_of k.inverse) × (y ≡ record { edit = x.edit; kept = None }) ×
-    (d.cells ≡ apply k.inverse b.cells) × (d.writes ≡ written_more b.writes n)
+    (d.cells ≡ apply k.inverse b.cells) × (d.writes ≡ saturating_add b.writes n)
 
 -- to take an entry's edit back leaves a well-formed workbook
 abbrev pub LeavesWellFormed : kept.Entry → Cells → Type 0

@@ -3,7 +3,7 @@ use Rattle.std.specs.Prelude.{◌≡◌, ℕ, ◌<◌, true, List, Some, ◌⊎�
 use Rattle.selective_undo.specs.History.{Has, Falls}
 use Rattle.selective_undo.specs.Log.{Footprint, blocks_undo}
 use Rattle.wb_cells.specs.Schema.{workbook}
-use Rattle.wb_footprints.specs.declared.numbers.Numbers.{Numbers}
+use Rattle.wb_footprints.specs.declared.marks.numbers.Numbers.{Numbers}
 use Rattle.wb_footprints.specs.Footprints.{Footprints}
 use Rattle.wb_footprints.specs.Numbers.{numbered}
 

@@ -10,8 +10,8 @@ use Rattle.selective_undo.specs.Log.{Least, BlocksRedo}
 use Rattle.wb_cells.specs.declared.cells.cell.Cell.{Cell}
 use Rattle.wb_cells.specs.Cells.{Changes, count_of}
 use Rattle.wb_cells.specs.Schema.{workbook}
-use Rattle.wb_log.specs.declared.refusal.Refusal.{Refusal}
-use Rattle.wb_log.specs.declared.refusal.Refusal.TheVariants.{Refused, NoSuchEdit, NotInForce, InForce as IsInForce, Blocked, RefusedInPlace, NoMemory}
+use Rattle.wb_edit.specs.declared.refusal.Refusal.{Refusal}
+use Rattle.wb_edit.specs.declared.refusal.Refusal.TheVariants.{Refused, NoSuchEdit, NotInForce, InForce as IsInForce, Blocked, RefusedInPlace, NoMemory}
 
 -- An edit comes: its number, and how many cells it changes; or why it is refused as things stand.
 abbrev pub EditReply : List (h.Entry workbook) → Edit workbook → Result (ℕ × ℕ) Refusal → Type 0

@@ -16,10 +16,10 @@ use Rattle.wb_edit.specs.declared.command.Command.{Command}
 use Rattle.wb_edit.specs.declared.command.Command.TheVariants.{Set}
 use Rattle.wb_edit.specs.declared.edit.Edit.{Edit}
 use Rattle.wb_edit.specs.declared.edit.Edit.TheVariants.{Transaction}
-use Rattle.wb_footprints.specs.declared.place.Place.{Place}
+use Rattle.wb_footprints.specs.declared.places.place.Place.{Place}
 use Rattle.wb_footprints.specs.Footprints.{read_at}
 use Rattle.wb_log.specs.declared.array_sets.SetList.{SetList}
-use Rattle.wb_log.specs.declared.array_sets.SetList.TheVariants.{Line, Plane, Solid}
+use Rattle.wb_log.specs.declared.array_sets.SetList.TheVariants.{Rank1, Rank2, Rank3}
 
 -- ---- the edit
 
@@ -29,9 +29,9 @@ set_at e = (Point e.0, e.1)
 
 -- the sets of a list, each by its index and number, in order
 abbrev pub sets_in : SetList → List (Index × ℤ)
-sets_in (Line p) = map set_at p.sets.items
-sets_in (Plane p) = map set_at p.sets.items
-sets_in (Solid p) = map set_at p.sets.items
+sets_in (Rank1 p) = map set_at p.sets.items
+sets_in (Rank2 p) = map set_at p.sets.items
+sets_in (Rank3 p) = map set_at p.sets.items
 
 -- a set of an element of an array, as a command
 abbrev pub set_command : Name → Index × ℤ → Command

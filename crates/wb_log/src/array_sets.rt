@@ -22,11 +22,11 @@ pub struct PointSets<const R: usize> {
 #[derive(Drop)]
 pub enum SetList {
     /// At integers.
-    Line(PointSets<1>),
+    Rank1(PointSets<1>),
     /// At pairs.
-    Plane(PointSets<2>),
+    Rank2(PointSets<2>),
     /// At triples.
-    Solid(PointSets<3>),
+    Rank3(PointSets<3>),
 }
 
 /// Sets of elements of one array as one edit, with a note. Contracts see the edit.
@@ -126,13 +126,13 @@ impl SetList {
         ensures { IfOk result (λ o. IfSome o (λ l. commands.now ≡ set_commands array.now (sets_in l))) }
     {
         if let Some(line) = PointSets::of(alloc, array, commands)? {
-            return Ok(Some(SetList::Line(line)));
+            return Ok(Some(SetList::Rank1(line)));
         }
         if let Some(plane) = PointSets::of(alloc, array, commands)? {
-            return Ok(Some(SetList::Plane(plane)));
+            return Ok(Some(SetList::Rank2(plane)));
         }
         if let Some(solid) = PointSets::of(alloc, array, commands)? {
-            return Ok(Some(SetList::Solid(solid)));
+            return Ok(Some(SetList::Rank3(solid)));
         }
         Ok(None)
     }
@@ -142,9 +142,9 @@ impl SetList {
         ensures { IfOk result (λ v. v.items ≡ set_commands array.now (sets_in self.now)) }
     {
         match self {
-            SetList::Line(line) => line.commands(alloc, array),
-            SetList::Plane(plane) => plane.commands(alloc, array),
-            SetList::Solid(solid) => solid.commands(alloc, array),
+            SetList::Rank1(line) => line.commands(alloc, array),
+            SetList::Rank2(plane) => plane.commands(alloc, array),
+            SetList::Rank3(solid) => solid.commands(alloc, array),
         }
     }
 }
@@ -154,19 +154,6 @@ fn array_of(command: &Command) -> Option<Name> {
     match command {
         Command::Set(array, _, _) => Some(*array),
         _ => None,
-    }
-}
-
-// An equal note, if there is one.
-fn copied_note(alloc: Global, note: Option<&Note>) -> Result<Option<Note>, NoMemory>
-    ensures { IfOk result (λ n. n ≡ option_map (λ m. m.now) note.entry) }
-{
-    match note {
-        None => Ok(None),
-        Some(note) => match note.copy(alloc) {
-            Ok(copy) => Ok(Some(copy)),
-            Err(why) => Err(why),
-        },
     }
 }
 
@@ -182,7 +169,7 @@ impl ArraySets {
         match SetList::of(alloc, &array, commands) {
             Err(why) => Err(why),
             Ok(None) => Ok(None),
-            Ok(Some(list)) => match copied_note(alloc, several.note()) {
+            Ok(Some(list)) => match Note::copied(alloc, several.note()) {
                 Err(why) => Err(why),
                 Ok(note) => Ok(Some(ArraySets { array, list, note })),
             },
@@ -200,7 +187,7 @@ impl ArraySets {
     {
         match self.list.commands(alloc, &self.array) {
             Err(why) => Err(why),
-            Ok(made) => match copied_note(alloc, self.note()) {
+            Ok(made) => match Note::copied(alloc, self.note()) {
                 Err(why) => Err(why),
                 Ok(note) => match Transaction::new(made, note) {
                     Some(several) => Ok(Edit::Transaction(several)),

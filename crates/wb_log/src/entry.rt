@@ -23,13 +23,13 @@ use std::marker::Model;
 use wb_cells::{
     AnyCell, AnyIndex, AnyRect, Cell, CellChange, Changes, Inverse, Name, Pattern, ReadRun, Value,
 };
-use wb_edit::{AskedRectangle, Command, Edit, Footprint, Note};
+use wb_edit::{AskedRectangle, Command, Edit, Note, ReadFootprint};
 use wb_range::NoMemory;
 
 /// What an edit in force read, and what takes it back.
 #[derive(Drop)]
 pub struct Kept {
-    pub footprint: Footprint,
+    pub footprint: ReadFootprint,
     pub inverse: Inverse,
 }
 

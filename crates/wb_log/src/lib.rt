@@ -9,7 +9,6 @@ mod blockers;
 mod cells_were;
 mod entry;
 mod index;
-mod refusal;
 pub mod steps;
 mod sweep;
 
@@ -20,5 +19,4 @@ pub use crate::entry::{
     Record, Sets, Was,
 };
 pub use crate::index::Index;
-pub use crate::refusal::Refusal;
 pub use crate::steps::undoer::Undoer;

@@ -5,12 +5,12 @@ use Rattle.wb_lines.specs.declared.sink.Sink as Sink
 use Rattle.wb_lines.specs.declared.source.Source as Source
 use Rattle.wb_command.specs.declared.Asked.{Asked}
 use Rattle.wb_command.specs.declared.Asked.TheVariants.{Serve}
-use Rattle.wb_history.specs.Past.{Past}
-use Rattle.wb_program.specs.Doing.{Fails, FailsAfterInput, FailsToHost, Finishes}
+use Rattle.wb_program.specs.Doing.{Fails, FailsAfterInput, Finishes}
+use Rattle.wb_seats.specs.Hosting.{FailsToHost}
 use Rattle.wb_sessions.specs.Resuming.{IsOpening}
 use Rattle.wb_sessions.specs.Running.{HasFailed, opening}
-use Rattle.wb_program.specs.declared.accepting.Accepts as Accepts
-use Rattle.wb_sessions.proofs.Sent.{no_fault_of_0}
+use Rattle.wb_connections.specs.declared.accepting.Accepts as Accepts
+use Rattle.wb_statuses.proofs.Faults.{no_fault_of_0}
 
 -- The status after an input that has no history is not 0.
 pub no_opening_of_0 : (status : ℕ) (read text : List ℕ) → status ≡ 0 → IsOpening (Err status) read text → ⊥
@@ -34,12 +34,6 @@ resumed_desk_finishes asked port seats workers resume status left flushed is e h
     of_asked (λ a. Finishes a status left flushed) asked port seats workers resume true is e h
 
 module _ {I O N : Type 0} (source : Source.Ghosts I) (sink : Sink.Ghosts O) (accepts : Accepts.Ghosts N I O) where
-  -- a desk whose port was not told
-  pub not_told : (past : Past) (seats : ℕ) (port_failed write_failed : Bool) → (port_failed ≡ true) ⊎ (write_failed ≡ true)
-      → FailsToHost source sink accepts past seats port_failed write_failed
-  not_told past seats port_failed write_failed (inl port) = inl port
-  not_told past seats port_failed write_failed (inr write) = inr (inr (inl write))
-
   pub desk_fails : (asked : Asked) (port seats workers : ℕ) (resume : Bool) (old new : Option (List ℕ)) (read_failed : Bool) (before after : ℕ)
       (port_failed write_failed : Bool) → asked ≡ Serve port seats resume workers → resume ≡ false
       → FailsToHost source sink accepts opening seats port_failed write_failed

@@ -4,11 +4,12 @@ use Rattle.wb_lines.specs.declared.sink.Sink as Sink
 use Rattle.wb_lines.specs.declared.source.Source as Source
 use Rattle.wb_command.specs.declared.Asked.{Asked}
 use Rattle.wb_command.specs.declared.Asked.TheVariants.{Run, Serve, Upgrade}
-use Rattle.wb_program.specs.Doing.{Does, Hosts, HostsHistory}
+use Rattle.wb_program.specs.Doing.{Does, HostsHistory}
+use Rattle.wb_seats.specs.Hosting.{Hosts}
 use Rattle.wb_sessions.specs.Resuming.{IsResumed}
 use Rattle.wb_sessions.specs.Running.{opening}
 use Rattle.wb_sessions.specs.Upgrading.{Upgrades}
-use Rattle.wb_program.specs.declared.accepting.Accepts as Accepts
+use Rattle.wb_connections.specs.declared.accepting.Accepts as Accepts
 
 module _ {I O N : Type 0} (source : Source.Ghosts I) (sink : Sink.Ghosts O) (accepts : Accepts.Ghosts N I O) where
   pub history_hosted : (asked : Asked) (port seats workers : ℕ) (resume : Bool) (status : ℕ) (read : List ℕ) (left : Option (List ℕ)) (text : List ℕ)

@@ -14,13 +14,13 @@ use Rattle.wb_desk.specs.Serving.{Held, new_passes}
 use Rattle.wb_desk.specs.Settling.{IsCause}
 use Rattle.wb_desk.specs.declared.settling.Cause.{Cause}
 use Rattle.wb_desk.specs.Seats.{IsNumberOfSeats}
-use Rattle.wb_program.specs.Days.{AllBack}
+use Rattle.wb_seats.specs.Days.{AllBack}
 use Rattle.wb_program.specs.KeptDays.{BreaksOff, EndsKeptDay, FailsKeptDay, HasNoDesk, SettlesKept}
 use Rattle.wb_program.specs.KeptSeats.{FailsOnce}
-use Rattle.wb_program.specs.declared.accepting.Accepts as Accepts
+use Rattle.wb_connections.specs.declared.accepting.Accepts as Accepts
 use Rattle.wb_sessions.specs.declared.files.FileFault.TheVariants.{Failed}
 use Rattle.wb_sessions.specs.declared.keeping.KeptRun.{KeptRun}
-use Rattle.wb_program.proofs.Ending.{disagrees}
+use Rattle.wb_seats.proofs.Ending.{disagrees}
 
 of_passes : (k : KeptCourse) (ps : List Held) (cause : SettleErr) (why : Cause) → cause ≡ Passes why → IsSettleCause k ps cause
     → IsCause k.course.seats k.course.entries ps why

@@ -8,7 +8,7 @@ use Rattle.wb_command.specs.declared.Asked.{Asked}
 use Rattle.wb_command.specs.declared.Asked.TheVariants.{ServeKept}
 use Rattle.wb_sessions.specs.Keeping.{ReadsNothing, Streams, its_writer}
 use Rattle.wb_program.specs.KeptDays.{KeepsDay, RunsDesk, UsesDesk}
-use Rattle.wb_program.specs.declared.accepting.Accepts as Accepts
+use Rattle.wb_connections.specs.declared.accepting.Accepts as Accepts
 use Rattle.wb_sessions.specs.declared.files.OpensFiles as OpensFiles
 use Rattle.wb_sessions.specs.declared.keeping.KeptRun.{KeptRun}
 use Rattle.wb_program.proofs.Used.{did_nothing}

@@ -1,10 +1,10 @@
 -- What a line was read as that can be kept.
 use Rattle.std.proofs.Common.{◌≡◌, inl, inr, refl, List, ℕ, Result, Ok, Err, IfOk, IfErr}
-use Rattle.wb_log.specs.declared.refusal.Refusal.{Refusal}
-use Rattle.wb_log.specs.declared.refusal.Refusal.TheVariants as why
-use Rattle.wb_protocol.specs.Requests.{request}
-use Rattle.wb_protocol.specs.declared.requests.request.Request.{Request}
-use Rattle.wb_program.specs.Serving.{IsReadAs}
+use Rattle.wb_edit.specs.declared.refusal.Refusal.{Refusal}
+use Rattle.wb_edit.specs.declared.refusal.Refusal.TheVariants as why
+use Rattle.wb_requests.specs.Requests.{request}
+use Rattle.wb_requests.specs.declared.requests.request.Request.{Request}
+use Rattle.wb_seats.specs.Serving.{IsReadAs}
 
 -- why a line is none
 pub by_why : (line : List ℕ) (r : Refusal) → ((r ≡ why.NoMemory → ⊥) → request line ≡ Err r) → IsReadAs line (Err r)

@@ -1,6 +1,3 @@
-pub mod Reading
-pub mod Seated
-pub mod Ending
 pub mod Hosting
 pub mod Finishing
 pub mod Used
@@ -8,5 +5,6 @@ pub mod KeptReading
 pub mod KeptEnding
 pub mod KeptHosting
 pub mod Telling
-pub mod ThroughDoor
-pub mod Behind
+pub mod KeptStayEnding
+pub mod StayEnding
+pub mod StaySeats

@@ -5,11 +5,11 @@ use Rattle.wb_command.specs.declared.Asked.TheVariants.{Run, RunKept, Serve}
 use Rattle.wb_lines.specs.declared.sink.Sink as Sink
 use Rattle.wb_lines.specs.declared.source.Source as Source
 use Rattle.wb_history.specs.Past.{Past}
-use Rattle.wb_sessions.proofs.Telling.{no_fault_of_1, no_print_of_1}
+use Rattle.wb_statuses.proofs.Faults.{no_fault_of_1, no_print_of_1}
 use Rattle.wb_sessions.specs.declared.reasons.Reason.{Reason}
-use Rattle.wb_program.specs.Doing.{Hosts}
+use Rattle.wb_seats.specs.Hosting.{Hosts}
 use Rattle.wb_program.specs.Telling.{TellsWhy}
-use Rattle.wb_program.specs.declared.accepting.Accepts as Accepts
+use Rattle.wb_connections.specs.declared.accepting.Accepts as Accepts
 
 -- what a command line asks for, by whether the text of a history comes first
 pub run_tells : (asked : Asked) (workers : ℕ) (resume b : Bool) (old left : Option (List ℕ)) (told : Option Reason) → asked ≡ Run resume workers

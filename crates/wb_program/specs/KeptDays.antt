@@ -14,13 +14,13 @@ use Rattle.wb_desk.specs.Courses.{IsCourse, Start}
 use Rattle.wb_desk.specs.Openings.{whole_from}
 use Rattle.wb_command.specs.declared.Asked.{Asked}
 use Rattle.wb_command.specs.declared.Asked.TheVariants as ask
-use Rattle.wb_sessions.specs.Checking.{IsFault}
-use Rattle.wb_program.specs.Days.{FailsDay, IsDay}
-use Rattle.wb_program.specs.Doing.{listening}
+use Rattle.wb_statuses.specs.Statuses.{IsFault}
+use Rattle.wb_seats.specs.Days.{FailsDay, IsDay}
+use Rattle.wb_seats.specs.Hosting.{listening}
 use Rattle.wb_sessions.specs.Keeping.{FailsToOpen, IsKeptHistory, IsNotOpened, IsOpened, ReadsNothing, RefusesFile, RefusesLines, Streams, its_writer}
 use Rattle.wb_program.specs.KeptSeats.{FailsOnce}
-use Rattle.wb_program.specs.Serving.{NeverSettles, PrintsSettled}
-use Rattle.wb_program.specs.declared.accepting.Accepts as Accepts
+use Rattle.wb_seats.specs.Serving.{NeverSettles, PrintsSettled}
+use Rattle.wb_connections.specs.declared.accepting.Accepts as Accepts
 use Rattle.wb_sessions.specs.declared.files.FileFault.{FileFault}
 use Rattle.wb_sessions.specs.declared.files.FileFault.TheVariants as faults
 use Rattle.wb_sessions.specs.declared.files.OpensFiles as OpensFiles

@@ -1,9 +1,9 @@
 -- What a seat is told at a desk whose changes are kept.
 use Rattle.std.specs.Prelude.{◌<◌, ℕ, List, Result, Ok, Err}
-use Rattle.wb_log.specs.declared.refusal.Refusal.{Refusal}
-use Rattle.wb_protocol.specs.Replies.{reply_of}
-use Rattle.wb_protocol.specs.declared.replies.reply.Reply.{Reply}
-use Rattle.wb_protocol.specs.declared.replies.reply.Reply.TheVariants.{Refused}
+use Rattle.wb_edit.specs.declared.refusal.Refusal.{Refusal}
+use Rattle.wb_machine.specs.Replies.{reply_of}
+use Rattle.wb_machine.specs.declared.replies.reply.Reply.{Reply}
+use Rattle.wb_machine.specs.declared.replies.reply.Reply.TheVariants.{Refused}
 use Rattle.wb_kept_seats.specs.declared.sealing.Sealed.{Sealed}
 
 -- the text of a reply that is sealed, or of why a line is no request

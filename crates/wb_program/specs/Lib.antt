@@ -1,12 +1,7 @@
-pub mod Door
-pub mod Serving
-pub mod Early
-pub mod Costs
-pub mod Accepting
-pub mod Days
 pub mod KeptSeats
 pub mod Files
 pub mod Doing
 pub mod KeptDays
 pub mod Telling
-pub mod Words
+pub mod KeptStays
+pub mod Stays

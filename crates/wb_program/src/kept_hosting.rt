@@ -6,20 +6,19 @@ ghost use Rattle.wb_keep.specs.Disk.Device.{Only};
 ghost use Rattle.wb_sessions.specs.Keeping.{IsKeptHistory, writer_alone};
 ghost use Rattle.wb_program.specs.KeptDays.{FailsKeptDay, HostsKept, RunsDesk, UsesDesk};
 
-use crate::accepting::{Accepts, Binds};
-use crate::doing::listen;
 use crate::kept_serving::serve_kept_on;
 use std::alloc::Global;
 use std::sync::Wait;
 use std::thread::Threads;
 use wb_arrays::Mover;
+use wb_connections::{Accepts, Binds};
 use wb_history::History;
 use wb_keep::disk::{Device, Replaces};
 use wb_kept::Kept;
 use wb_lines::{Sink, Source};
-use wb_sessions::{
-    FileFault, INPUT_OR_OUTPUT_FAILED, KeptRun, NO_MEMORY, OpensFiles, opened, turned_away,
-};
+use wb_seats::listen;
+use wb_sessions::{FileFault, KeptRun, OpensFiles, opened, turned_away};
+use wb_statuses::{INPUT_OR_OUTPUT_FAILED, NO_MEMORY};
 
 // A desk on a port, on the history of a journal that was opened.
 fn host_kept<

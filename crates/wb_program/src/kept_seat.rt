@@ -6,19 +6,14 @@ ghost use Rattle.wb_lines.specs.Causes.{ReadsUntil, WritesUntil};
 ghost use Rattle.wb_lines.specs.Turns.{ServesTurns, cost_limit, turn_limit};
 ghost use Rattle.wb_lines.specs.declared.machine.SessionEnd.{SessionEnd};
 ghost use Rattle.wb_company.specs.Texts.{answer_text};
-ghost use Rattle.wb_protocol.specs.Replies.{reply_of};
-ghost use Rattle.wb_program.specs.Costs.{kept_line_cost};
-ghost use Rattle.wb_program.specs.Early.{IsSettledFrom};
-ghost use Rattle.wb_program.specs.Door.{left_at, failed_at, reads_at};
-ghost use Rattle.wb_program.specs.Serving.{AnswersSeat, IsReadAs};
-ghost use Rattle.wb_program.specs.Words.{IsHeardAs, heard_cost, heard_text};
+ghost use Rattle.wb_machine.specs.Replies.{reply_of};
+ghost use Rattle.wb_seats.specs.Costs.{asked_cost, kept_line_cost};
+ghost use Rattle.wb_seats.specs.Early.{IsSettledFrom};
+ghost use Rattle.wb_connections.specs.Door.{left_at, failed_at, reads_at};
+ghost use Rattle.wb_seats.specs.Serving.{AnswersSeat, IsReadAs};
+ghost use Rattle.wb_seats.specs.Words.{IsHeardAs, heard_cost, heard_text};
 ghost use Rattle.wb_program.specs.KeptSeats.{FailsOnce, told_text};
 
-use crate::cost::{cost_of_both, cost_of_last, cost_to_answer_said};
-use crate::door::Door;
-use crate::early::{CanSettle, Early, LEFT_LIMIT, Settlings};
-use crate::seat::{Hold, Seat, text_of};
-use crate::words::{Answered, AnyWord, Heard, cost_of_word, text_of_word, word_or_why};
 use std::alloc::{AllocError, Global};
 use std::cell::Cell;
 use std::marker::{Model, PhantomData};
@@ -27,12 +22,17 @@ use std::sync::atomic::Ordering::SeqCst;
 use std::sync::{Mutex, Wait};
 use wb_arrays::Mover;
 use wb_company::{Answer, Word};
+use wb_connections::Door;
 use wb_desk::{Difference, Pass};
-use wb_history::Refusal;
+use wb_edit::Refusal;
 use wb_keep::disk::Device;
 use wb_kept_seats::{CommitErr, Desk, KeptOpening, Receipt, Said, Sealed, SettleErr, Turn};
-use wb_lines::{Asks, Sink, Source, Tells, serve_turns};
-use wb_protocol::Reply;
+use wb_lines::{Asks, Machine, Sink, Source, Tells, serve_turns};
+use wb_machine::Reply;
+use wb_seats::{
+    Answered, AnyWord, CanSettle, Early, Heard, Hold, LEFT_LIMIT, Settlings, cost_of_both,
+    cost_of_last, cost_of_request, cost_of_word, text_of, text_of_word, word_or_why,
+};
 
 /// Whether a commit was refused since the file failed.
 #[derive(Drop)]
@@ -140,10 +140,17 @@ impl<L: KeptOpening, D: Device + Drop> KeptDesk<L, D> {
         if pass.own().len() < LEFT_LIMIT {
             return None;
         }
-        let mut turn = self.desk.turn(rt);
-        let told = turn.settle(pass);
-        end_turn(Some(turn));
+        let mut under_way = self.turn(rt);
+        let told = under_way.settle(pass);
+        end_turn(Some(under_way));
         told
+    }
+
+    // A turn at the desk, with its lock.
+    fn turn<R: Wait>(&self, rt: &R) -> UnderWay<'_, L> {
+        UnderWay {
+            turn: self.desk.turn(rt),
+        }
     }
 
     // Notes why nothing more is kept, where the file is the cause.
@@ -182,29 +189,62 @@ impl<L: KeptOpening, D: Device + Drop> KeptDesk<L, D> {
     }
 }
 
+// A turn at the desk, which has its lock. It has to be ended.
+struct UnderWay<'d, L: KeptOpening> {
+    turn: Turn<'d, L>,
+}
+
+impl<'d, L: KeptOpening> CanSettle<L> for UnderWay<'d, L> {
+    fn settle(&mut self, pass: &mut Pass<L>) -> Option<Difference> {
+        match self.turn.settle_seat(pass) {
+            Ok(_) => None,
+            Err(why) => Some(why),
+        }
+    }
+}
+
 // The turns of a seat, one after another. Each takes the desk's lock for its first line, and holds it until it is let go. Of the
 // last that was let go there is a receipt, if it was kept.
 struct Turns<'d, L: KeptOpening, D: Device + Drop> {
     desk: &'d KeptDesk<L, D>,
-    under_way: Cell<Option<Turn<'d, L>>>,
+    under_way: Cell<Option<UnderWay<'d, L>>>,
     receipt: Cell<Option<Receipt<L, D>>>,
 }
 
 // A reply that the desk sealed, or why a line is no request.
 type Told<L> = Result<Sealed<L, Reply>, Refusal>;
 
-impl<L: KeptOpening, S: Settlings<L>> Asks<Heard<Said>> for Seat<L, S> {
+// What a seat at a desk of this name may answer that is settled so.
+struct KeptSeat<L, S> {
+    of: PhantomData<(L, S)>,
+}
+
+impl<L: KeptOpening, S: Settlings<L>> Machine<Pass<L>> for KeptSeat<L, S> {
+    ghost answers = { S.answers };
+}
+
+impl<L: KeptOpening, S: Settlings<L>> Asks<Heard<Said>> for KeptSeat<L, S> {
     ghost reads = { IsHeardAs IsReadAs S.hears };
 }
 
-impl<L: KeptOpening, S> Tells<Answered<Result<Sealed<L, Reply>, Refusal>>> for Seat<L, S> {
+impl<L: KeptOpening, S> Tells<Answered<Result<Sealed<L, Reply>, Refusal>>> for KeptSeat<L, S> {
     ghost text = { heard_text told_text };
 }
 
 // Ends a turn, if one is under way, and lets the desk's lock go.
-fn end_turn<L: KeptOpening>(turn: Option<Turn<'_, L>>) {
-    if let Some(turn) = turn {
+fn end_turn<L: KeptOpening>(under_way: Option<UnderWay<'_, L>>) {
+    if let Some(UnderWay { turn }) = under_way {
         let _ = turn.end();
+    }
+}
+
+// What it costs to answer what a line was read as, where that can be kept, beyond what the reply tells of.
+fn cost_to_answer_said(asked: &Result<Said, Refusal>) -> u64
+    ensures { result ≡ asked_cost asked.now }
+{
+    match asked {
+        Ok(said) => cost_of_request(said.request()),
+        Err(_) => 0,
     }
 }
 
@@ -246,15 +286,15 @@ impl<'d, L: KeptOpening, D: Device + Drop> Turns<'d, L, D> {
         ensures cost { result.1 ≡ kept_line_cost asked pass.new.own }
     {
         let least = cost_to_answer_said(&asked);
-        let mut turn = match self.under_way.take() {
-            Some(turn) => turn,
-            None => self.desk.desk.turn(rt),
+        let mut under_way = match self.under_way.take() {
+            Some(under_way) => under_way,
+            None => self.desk.turn(rt),
         };
-        settlings.before_line(&mut turn, pass);
+        settlings.before_line(&mut under_way, pass);
         let found = pass.own().len();
-        let told = reply_in(&mut turn, pass, asked, mover);
+        let told = reply_in(&mut under_way.turn, pass, asked, mover);
         settlings.note(pass, found);
-        end_turn(self.under_way.replace(Some(turn)));
+        end_turn(self.under_way.replace(Some(under_way)));
         let cost = cost_of_both(least, cost_of_last(pass));
         (told, cost)
     }
@@ -270,12 +310,12 @@ impl<'d, L: KeptOpening, D: Device + Drop> Turns<'d, L, D> {
         ensures answers { (line : List ℕ) → S.hears line word → S.answers pass.now line (heard_text told_text result.0) pass.now }
         ensures cost { result.1 ≡ heard_cost (λ asked told. kept_line_cost asked pass.now.own) (Heard.Word word) result.0 }
     {
-        let turn = match self.under_way.take() {
-            Some(turn) => turn,
-            None => self.desk.desk.turn(rt),
+        let under_way = match self.under_way.take() {
+            Some(under_way) => under_way,
+            None => self.desk.turn(rt),
         };
         let said = settlings.answer_word(pass, word);
-        end_turn(self.under_way.replace(Some(turn)));
+        end_turn(self.under_way.replace(Some(under_way)));
         match said {
             Ok(answer) => {
                 let cost = cost_of_word(&answer);
@@ -310,7 +350,7 @@ impl<'d, L: KeptOpening, D: Device + Drop> Turns<'d, L, D> {
     fn let_go<R: Wait>(&self, rt: &R) {
         let receipt = match self.under_way.take() {
             None => None,
-            Some(turn) => self.desk.keep(rt, turn),
+            Some(UnderWay { turn }) => self.desk.keep(rt, turn),
         };
         self.receipt.set(receipt);
     }
@@ -454,7 +494,7 @@ fn serve_in_kept_turns<
         hold.let_go();
     };
     let _ = serve_turns::<
-        Seat<L, S>,
+        KeptSeat<L, S>,
         Pass<L>,
         Hold,
         Heard<Said>,

@@ -4,17 +4,13 @@ ghost use Rattle.std.specs.Io.KnownBytes.{Appends};
 ghost use Rattle.wb_desk.specs.Openings.{whole_from};
 ghost use Rattle.wb_desk.specs.Serving.{new_passes};
 ghost use Rattle.wb_keep.specs.Lines.{recovered};
-ghost use Rattle.wb_sessions.specs.Checking.{IsFault};
-ghost use Rattle.wb_program.specs.Days.{AllBack, ServedOn};
+ghost use Rattle.wb_statuses.specs.Statuses.{IsFault};
+ghost use Rattle.wb_seats.specs.Days.{AllBack, ServedOn};
 ghost use Rattle.wb_sessions.specs.Keeping.{IsKeptHistory};
 ghost use Rattle.wb_program.specs.KeptDays.{BreaksOff, EndsKeptDay, FailsKeptDay, LeavesDesk, SettlesKept, TellsOfFile};
 ghost use Rattle.wb_program.specs.KeptSeats.{FailsOnce};
 
-use crate::accepting::{AcceptErr, Accepts};
-use crate::door::Door;
-use crate::early::{Settlings, WithItsDesk};
 use crate::kept_seat::{Failing, KeptDesk, serve_kept_seat};
-use crate::serving::{Promised, print_settled};
 use std::alloc::Global;
 use std::marker::Brand;
 use std::snapshot::Snapshot;
@@ -23,6 +19,7 @@ use std::sync::ledger::Blank;
 use std::thread;
 use std::thread::Threads;
 use wb_arrays::Mover;
+use wb_connections::{AcceptErr, Accepts, Door};
 use wb_desk::{Cause, DeskErr, Pass};
 use wb_history::History;
 use wb_keep::LineLog;
@@ -31,7 +28,9 @@ use wb_kept::{Changes, Kept};
 use wb_kept_group::group::Opened;
 use wb_kept_seats::{Desk, KeptOpening, Seats, SettleErr, Settled, Unsettled, settle};
 use wb_lines::{Sink, Source};
-use wb_sessions::{BAD_COMMAND_LINE, FileFault, INPUT_OR_OUTPUT_FAILED, KeptRun, NO_MEMORY};
+use wb_seats::{Promised, Settlings, WithItsDesk, print_settled};
+use wb_sessions::{FileFault, KeptRun};
+use wb_statuses::{BAD_COMMAND_LINE, INPUT_OR_OUTPUT_FAILED, NO_MEMORY};
 
 // The exit status of a day that was not settled, and what is told of the file: where it failed, that is the cause.
 fn blamed<D: Device + Drop>(failing: &Failing<D>, status: u8) -> (u8, Option<FileFault>)

@@ -1,6 +1,6 @@
 //! Journals that are made anew, and such as begin with the text of a history.
 
-use crate::journals::OneFile;
+use crate::asked::OneFile;
 use std::alloc::{AllocError, Global};
 use std::net::{Net, TcpListener, TcpStream};
 use std::process::Abort;
@@ -9,10 +9,11 @@ use std::test::Fail;
 use std::thread::Threads;
 use wb_arrays::{Crew, Mover};
 use wb_command::{Asked, FilePath};
+use wb_connections::Ports;
 use wb_keep::START;
 use wb_keep::disk::MemoryFile;
 use wb_lines::{Input, Output};
-use wb_program::{Ports, do_asked};
+use wb_program::do_asked;
 use wb_sessions::{FileFault, PutBack, Reason, compact_with, run_kept_with};
 
 // More calls than are made here.

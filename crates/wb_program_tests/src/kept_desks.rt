@@ -8,10 +8,11 @@ use std::sync::{Mutex, Wait};
 use std::test::Fail;
 use std::thread::{SpawnError, Threads};
 use wb_arrays::{Crew, Mover};
+use wb_connections::{AcceptErr, Accepts, Binds};
 use wb_keep::START;
 use wb_keep::disk::MemoryFile;
 use wb_lines::{Input, Output};
-use wb_program::{AcceptErr, Accepts, Binds, host_kept_with};
+use wb_program::host_kept_with;
 use wb_sessions::{FileFault, KeptRun};
 
 // More calls than a day makes here.

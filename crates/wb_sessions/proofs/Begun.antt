@@ -10,7 +10,7 @@ use Rattle.wb_keeping.specs.declared.beginning.Opening.{Opening}
 use Rattle.wb_keeping.specs.declared.opening.BeginErr.{BeginErr}
 use Rattle.wb_keeping.specs.declared.opening.BeginErr.TheVariants as errs
 use Rattle.wb_history.specs.Past.{Past}
-use Rattle.wb_protocol.specs.Histories.Text.{IsNoHistory}
+use Rattle.wb_machine.specs.Histories.Text.{IsNoHistory}
 use Rattle.wb_sessions.specs.Beginning.{IsNotBegun, TellsOf}
 use Rattle.wb_sessions.specs.Checking.{IsNoRecord}
 use Rattle.wb_sessions.specs.Keeping.{DoesNothing, Streams}

@@ -3,7 +3,7 @@ use Rattle.std.proofs.Common.{◌≡◌, ℕ, List, Option, Result, Ok, Err, is_
 use lib.Seq.{take-append_seam}
 use Rattle.std.proofs.KnownBytes.{Appends-trans}
 use Rattle.std.specs.Io.KnownBytes.{Appends}
-use Rattle.wb_sessions.specs.Checking.{IsPrinted}
+use Rattle.wb_statuses.specs.Statuses.{IsPrinted}
 use Rattle.wb_sessions.specs.Upgrading.{AppendsFront}
 
 pub on_err : {E P : Type 0} (r : Result (Unit {0}) E) → P → OnErr r P

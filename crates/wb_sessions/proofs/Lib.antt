@@ -1,7 +1,6 @@
 pub mod Statuses
 pub mod Opening
 pub mod Loading
-pub mod Sent
 pub mod OpenedJournals
 pub mod Begun
 pub mod MadeAnew

@@ -9,14 +9,14 @@ use Rattle.wb_edit.specs.declared.edit.Edit.{Edit}
 use Rattle.wb_history.specs.Past.{Numbered, meant}
 use Rattle.wb_history.specs.Restored.{one_of, BeginsNone}
 use Rattle.wb_lines.specs.Lines.{ended, IsUnbroken}
-use Rattle.wb_protocol.specs.Requests.{request}
-use Rattle.wb_protocol.specs.declared.requests.request.Request.TheVariants.{Change}
-use Rattle.wb_protocol.specs.Wire.Encoded.{request_line}
-use Rattle.wb_protocol.specs.Histories.Text.{edit_line, said, AreSaid, IsHistory, IsSaid}
-use Rattle.wb_protocol.specs.Histories.Lines.{marked_at}
-use Rattle.wb_protocol.proofs.HistoryTexts.Below.{marked_said, unbroken_said}
-use Rattle.wb_protocol.proofs.HistoryTexts.LastLine.{broken}
-use Rattle.wb_protocol.proofs.HistoryTexts.Steps.{none_some, same_marked, some_same}
+use Rattle.wb_requests.specs.Requests.{request}
+use Rattle.wb_requests.specs.declared.requests.request.Request.TheVariants.{Change}
+use Rattle.wb_requests.specs.Wire.Encoded.{request_line}
+use Rattle.wb_machine.specs.Histories.Text.{edit_line, said, AreSaid, IsHistory, IsSaid}
+use Rattle.wb_machine.specs.Histories.Lines.{marked_at}
+use Rattle.wb_machine.proofs.HistoryTexts.Below.{marked_said, unbroken_said}
+use Rattle.wb_machine.proofs.HistoryTexts.LastLine.{broken}
+use Rattle.wb_machine.proofs.HistoryTexts.Steps.{none_some, same_marked, some_same}
 use Rattle.wb_sessions.specs.Places.{LeavesBehind, StandsBelow}
 
 -- ---- what a line says

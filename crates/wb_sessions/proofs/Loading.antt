@@ -19,7 +19,7 @@ use Rattle.wb_edit.specs.declared.edit.Edit.TheVariants.{Load}
 use Rattle.wb_edit.proofs.Loading.{becomes}
 use Rattle.wb_history.specs.Past.{meant}
 use Rattle.wb_history.specs.Restored.{one_of}
-use Rattle.wb_protocol.specs.Histories.Text.{AreProper, AreSaid, edit_line, history_text, objects_text}
+use Rattle.wb_machine.specs.Histories.Text.{AreProper, AreSaid, edit_line, history_text, objects_text}
 use Rattle.wb_text.specs.Lines.{book_text}
 use Rattle.wb_text.specs.Texts.Books.{IsBookText, book_in, cells_in, is_book_text}
 use Rattle.wb_text.proofs.Texts.Back.{book_back, cells_back}

@@ -2,7 +2,8 @@
 use Rattle.std.proofs.Common.{◌≡◌, ◌⊎◌, inl, inr, ℕ, List, Option, refl, Some}
 use Rattle.wb_lines.specs.declared.machine.SessionEnd.{SessionEnd}
 use Rattle.wb_lines.specs.declared.machine.SessionEnd.TheVariants.{Done, ReadFault, WriteFault, TooManyReads, NoMemory}
-use Rattle.wb_sessions.specs.Checking.{IsFault, IsPrinted, Says, status_of_verdict}
+use Rattle.wb_sessions.specs.Checking.{Says, status_of_verdict}
+use Rattle.wb_statuses.proofs.Faults.{no_fault_of_1, no_print_of_1}
 use Rattle.wb_sessions.specs.Reasons.{IsToldOf, WhyNothing}
 use Rattle.wb_sessions.specs.Running.{status_of}
 use Rattle.wb_sessions.specs.Upgrading.{Upgrades, UpgradesBook}
@@ -15,17 +16,7 @@ pub or_fault : {P S F : Type 0} → P → S ⊎ F → (P × S) ⊎ F
 or_fault p (inl s) = inl (p, s)
 or_fault p (inr f) = inr f
 
--- a fault has another status
-pub no_fault_of_1 : (status : ℕ) → status ≡ 1 → IsFault status → ⊥
-no_fault_of_1 status e (inl three) = cc
-no_fault_of_1 status e (inr four) = cc
-
--- so has what is printed whole
-pub no_print_of_1 : (status : ℕ) (whole text : List ℕ) → status ≡ 1 → IsPrinted whole status text → ⊥
-no_print_of_1 status whole text e (inl all) = cc (e, all.0)
-no_print_of_1 status whole text e (inr part) = no_fault_of_1 status e part.0
-
--- and a session
+-- a session has another status
 pub no_end_of_1 : (end : SessionEnd) → status_of end ≡ 1 → ⊥
 no_end_of_1 (Done n) e = cc
 no_end_of_1 (ReadFault n) e = cc

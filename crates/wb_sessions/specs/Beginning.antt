@@ -11,7 +11,8 @@ use Rattle.wb_keeping.specs.Opening.{HasFailedSince, IsOldOrBegun}
 use Rattle.wb_kept.specs.declared.kept.Kept.{Kept}
 use Rattle.wb_lines.specs.Causes.{RisesBy}
 use Rattle.wb_history.specs.Past.{Past}
-use Rattle.wb_sessions.specs.Checking.{IsAnswered, IsFault, Says}
+use Rattle.wb_sessions.specs.Checking.{IsAnswered, Says}
+use Rattle.wb_statuses.specs.Statuses.{IsFault}
 use Rattle.wb_sessions.specs.Keeping.{DoesNothing, IsKeptHistory, IsNotOpened, RefusesFile, ServesOn, Streams, UsesFile}
 use Rattle.wb_sessions.specs.Resuming.{IsRecord, IsUpToEnd, NoOpening}
 use Rattle.wb_sessions.specs.Running.{HasFailedByNow}

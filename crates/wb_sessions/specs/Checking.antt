@@ -8,11 +8,12 @@ use Rattle.wb_cells.specs.WellFormed.{IsWellFormed}
 use Rattle.wb_keep.specs.Lines.{is_ours, recovered}
 use Rattle.wb_kept.specs.Runs.{Leads}
 use Rattle.wb_keeping.specs.Granting.Granting.{Grants, no_edit}
-use Rattle.wb_protocol.specs.Encoding.Text.{history_text}
+use Rattle.wb_machine.specs.Encoding.Text.{history_text}
 use Rattle.wb_history.specs.Past.{Numbered, Past, meant}
 use Rattle.wb_reading.specs.Reading.{IsNoBook}
-use Rattle.wb_protocol.specs.Histories.Text.{IsNoHistory}
+use Rattle.wb_machine.specs.Histories.Text.{IsNoHistory}
 use Rattle.wb_text.specs.Lines.{book_text}
+use Rattle.wb_statuses.specs.Statuses.{IsFault}
 use Rattle.wb_sessions.specs.declared.checking.Verdict.{Verdict}
 use Rattle.wb_sessions.specs.declared.checking.Verdict.TheVariants.{Workbook, History, Journal, Refused}
 
@@ -82,14 +83,6 @@ status_of_verdict (Workbook count) = 0
 status_of_verdict (History count edits) = 0
 status_of_verdict (Journal count edits) = 0
 status_of_verdict Refused = 1
-
--- input or output failed, or a growth was refused
-abbrev pub IsFault : ℕ → Type 0
-IsFault status = (status ≡ 3) ⊎ (status ≡ 4)
-
--- a text was printed, with status 0; or a front of it, at a fault
-abbrev pub IsPrinted : List ℕ → ℕ → List ℕ → Type 0
-IsPrinted whole status text = ((status ≡ 0) × (text ≡ whole)) ⊎ (IsFault status × ((count : ℕ) × (text ≡ take count whole)))
 
 -- a verdict was printed, with its status; or a front of it, at a fault
 abbrev pub Says : Verdict → ℕ → List ℕ → Type 0

@@ -5,7 +5,7 @@ use Rattle.std.specs.List.{flat_map}
 use Rattle.memchr.specs.Find.{FindsNeedle, is_byte, places}
 use Rattle.wb_history.specs.Past.{Numbered}
 use Rattle.wb_lines.specs.Lines.{ended, IsUnbroken}
-use Rattle.wb_protocol.specs.Histories.Text.{edit_line, IsHistory}
+use Rattle.wb_machine.specs.Histories.Text.{edit_line, IsHistory}
 use Rattle.wb_sessions.specs.declared.reasons.Reason.{Reason}
 use Rattle.wb_sessions.specs.declared.reasons.Reason.TheVariants as reasons
 

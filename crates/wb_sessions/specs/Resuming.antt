@@ -2,13 +2,14 @@
 use Rattle.std.specs.Prelude.{◌≡◌, ◌⊎◌, ◌+◌, ℕ, Bool, List, [], ◌++◌, codes, length, Option, None, Some, option_map, Result, Ok, Err}
 use Rattle.memchr.specs.Find.{FindsNeedle}
 use Rattle.selective_undo.specs.History.{IsLegal}
-use Rattle.wb_protocol.specs.Encoding.Text.{history_text}
+use Rattle.wb_machine.specs.Encoding.Text.{history_text}
 use Rattle.wb_history.specs.Past.{Past, meant}
 use Rattle.wb_history.specs.Restored.{IsCounted}
 use Rattle.wb_lines.specs.Session.{Serves}
 use Rattle.wb_lines.specs.declared.machine.SessionEnd.{SessionEnd}
-use Rattle.wb_protocol.specs.Machine.{AnswersText}
-use Rattle.wb_sessions.specs.Checking.{IsNoRecord, IsFault, Says}
+use Rattle.wb_machine.specs.Machine.{AnswersText}
+use Rattle.wb_sessions.specs.Checking.{IsNoRecord, Says}
+use Rattle.wb_statuses.specs.Statuses.{IsFault}
 use Rattle.wb_sessions.specs.Running.{status_of}
 use Rattle.wb_sessions.specs.declared.checking.Verdict.TheVariants.{Refused}
 use Rattle.wb_sessions.specs.declared.put_back.PutBack.{PutBack}

@@ -6,7 +6,7 @@ use Rattle.wb_lines.specs.Reading.{read_limit}
 use Rattle.wb_lines.specs.Session.{Serves}
 use Rattle.wb_lines.specs.declared.machine.SessionEnd.{SessionEnd}
 use Rattle.wb_lines.specs.declared.machine.SessionEnd.TheVariants.{Done, ReadFault, WriteFault, TooManyReads, NoMemory}
-use Rattle.wb_protocol.specs.Machine.{AnswersText}
+use Rattle.wb_machine.specs.Machine.{AnswersText}
 
 -- 0 where all was answered, 3 where input or output failed, 4 where a growth was refused
 abbrev pub status_of : SessionEnd → ℕ

@@ -10,9 +10,10 @@ use Rattle.wb_history.specs.Past.{Numbered, meant}
 use Rattle.wb_history.specs.Restored.{one_of}
 use Rattle.wb_kept.specs.Sessions.{IsFront}
 use Rattle.wb_reading.specs.Reading.{IsNoBook}
-use Rattle.wb_protocol.specs.Histories.Text.{history_text, IsHistory}
+use Rattle.wb_machine.specs.Histories.Text.{history_text, IsHistory}
 use Rattle.wb_text.specs.Lines.{book_text}
-use Rattle.wb_sessions.specs.Checking.{IsFault, IsPrinted, Says}
+use Rattle.wb_sessions.specs.Checking.{Says}
+use Rattle.wb_statuses.specs.Statuses.{IsFault, IsPrinted}
 use Rattle.wb_sessions.specs.declared.checking.Verdict.TheVariants.{Refused}
 
 -- the history that has one edit, the load of this text, in force

@@ -1,31 +1,32 @@
 //! Sessions whose journal begins with the history whose text comes first.
 ghost use Rattle.std.specs.Prelude.{◌≡◌, ◌≢◌, ◌⊎◌, ℕ, List, [], true, IfOk, IfErr, IfSome, IfNone};
-ghost use Rattle.std.specs.Io.KnownBytes.{Appends, Consumes};
+ghost use Rattle.std.specs.Io.KnownBytes.{Appends, Consumes, IsAtEnd};
 ghost use Rattle.wb_keep.specs.Disk.Device.{Only};
 ghost use Rattle.wb_keeping.specs.Opening.{IsOpening};
 ghost use Rattle.wb_lines.specs.Causes.{RisesBy};
-ghost use Rattle.wb_sessions.specs.Beginning.{RunsBegun, TellsOf};
-ghost use Rattle.wb_sessions.specs.Checking.{IsAnswered, IsFault, IsNoRecord, Says};
-ghost use Rattle.wb_sessions.specs.Keeping.{FailsKept, FinishesKept, streams};
+ghost use Rattle.wb_sessions.specs.Beginning.{BeginsAt, RunsBegun, TellsOf};
+ghost use Rattle.wb_sessions.specs.Checking.{IsAnswered, IsNoRecord, Says};
+ghost use Rattle.wb_statuses.specs.Statuses.{IsFault};
+ghost use Rattle.wb_sessions.specs.Keeping.{FailsKept, FinishesKept, UsesFile, streams};
 ghost use Rattle.wb_sessions.specs.Reasons.{Tells, WhyNoOpening};
 ghost use Rattle.wb_sessions.specs.Resuming.{left_in, failed_in, reads_in, IsRecord, IsUpToEnd, NoOpening};
 ghost use Rattle.wb_sessions.specs.Running.{HasFailedByNow};
 ghost use Rattle.wb_sessions.specs.declared.checking.Verdict.TheVariants.{Refused};
 
 use crate::checking::{Verdict, say};
-use crate::files::FileFault;
+use crate::files::{FileFault, OpensFiles};
 use crate::keeping::{KeptRun, serve_from};
 use crate::put_back::PutBack;
 use crate::reasons::{Reason, look_of};
 use crate::resuming::{parts, read_opening, refuse};
-use crate::running::{INPUT_OR_OUTPUT_FAILED, NO_MEMORY};
 use std::alloc::Global;
 use std::str::from_utf8;
 use wb_arrays::Mover;
-use wb_keep::disk::Device;
+use wb_keep::disk::{Device, Replaces};
 use wb_keeping::{BeginErr, Opening, begin_kept, opening_of};
 use wb_lines::{LineFault, Sink, Source};
 use wb_range::NoMemory;
+use wb_statuses::{INPUT_OR_OUTPUT_FAILED, NO_MEMORY};
 
 // The history of these bytes, with the line that it begins with, if they are the text of one.
 fn opening_in<M: Mover>(alloc: Global, bytes: &[u8], mover: &M) -> Result<Option<Opening>, NoMemory>
@@ -129,5 +130,69 @@ pub fn begin_kept_with<D: Device, R: Source, W: Sink, M: Mover>(
     match begin_kept(alloc, opening, file, held) {
         Ok(kept) => serve_from(alloc, kept, reader, writer, mover),
         Err((why, file)) => not_begun(why, file),
+    }
+}
+
+// A session on a history with which the file at a path is begun.
+fn begin_kept_at<D: Replaces, J: OpensFiles<D>, R: Source, W: Sink, M: Mover>(
+    alloc: Global,
+    files: &mut J,
+    path: &str,
+    opening: Opening,
+    reader: &mut R,
+    writer: &mut W,
+    mover: &M,
+) -> u8
+    requires opening { IsOpening opening }
+    ensures keeps { UsesFile D.Device J.OpensFiles (RunsBegun D.Device opening.history) path.now result files.new
+        (streams R.Source W.Sink reader.old reader.new writer.old writer.new) }
+    ensures done { FinishesKept result (streams R.Source W.Sink reader.old reader.new writer.old writer.new) }
+    ensures no_refusal { result ≢ 1 }
+{
+    match files.open(path) {
+        Ok((file, held)) => {
+            let KeptRun {
+                status,
+                fault,
+                file,
+            } = begin_kept_with(alloc, opening, file, &held, reader, writer, mover);
+            files.close(file, fault);
+            status
+        }
+        Err(FileFault::NoMemory) => NO_MEMORY,
+        Err(_) => INPUT_OR_OUTPUT_FAILED,
+    }
+}
+
+/// A session on the history whose text comes first, with which the file at a path is begun, as by `opening_from` and `begin_kept_with`; the file
+/// is given back.
+pub fn resume_kept_at<D: Replaces, J: OpensFiles<D>, R: Source, W: Sink, M: Mover>(
+    alloc: Global,
+    files: &mut J,
+    path: &str,
+    reader: &mut PutBack<R>,
+    writer: &mut W,
+    mover: &M,
+    why: &mut Option<Reason>,
+) -> u8
+    ensures keeps { BeginsAt D.Device J.OpensFiles path.now result files.old files.new (record {
+      unread = left_in R.remaining reader.old;
+      left = left_in R.remaining reader.new;
+      reads_before = reads_in reader.old;
+      reads_after = reads_in reader.new;
+      read_failed = failed_in reader.new;
+      sent = W.contents writer.old;
+      told = W.contents writer.new;
+      flushed = W.flushed writer.new;
+      write_failed = W.failed writer.new;
+    }) }
+    ensures done { result ≡ 0 → IsAtEnd (left_in R.remaining reader.new) × (W.flushed writer.new ≡ true) }
+    ensures why { result ≡ 1 → Tells WhyNoOpening (left_in R.remaining reader.old) (left_in R.remaining reader.new) why.new }
+{
+    match opening_from(alloc, reader, writer, mover, why) {
+        Ok(opening) => begin_kept_at::<D, J, PutBack<R>, W, M>(
+            alloc, files, path, opening, reader, writer, mover,
+        ),
+        Err(status) => status,
     }
 }

@@ -3,25 +3,22 @@
 ghost use Rattle.std.specs.Prelude.{◌≡◌, ℕ, List, true, IfOk, IfErr, OnErr, string_bytes};
 ghost use Rattle.std.specs.Io.KnownBytes.{Appends, Consumes, IsAtEnd};
 ghost use Rattle.wb_reading.specs.Reading.{IsNoBook};
-ghost use Rattle.wb_sessions.specs.Checking.{IsJournalOf, IsNoJournal, IsTextVerdict, IsVerdict, verdict_text, status_of_verdict, IsPrinted, Says, Judges, IsAnswered};
+ghost use Rattle.wb_sessions.specs.Checking.{IsJournalOf, IsNoJournal, IsTextVerdict, IsVerdict, verdict_text, status_of_verdict, Says, Judges, IsAnswered};
 ghost use Rattle.wb_sessions.specs.Reasons.{IsToldOf, StopsJournal, Tells, WhyNothing};
 ghost use Rattle.wb_sessions.specs.Running.{HasFailed};
 
 use crate::keeping::opened;
 use crate::reasons::{Reason, why_no_text};
-use crate::running::{DONE, INPUT_OR_OUTPUT_FAILED, NO_MEMORY};
 use std::alloc::{AllocError, Global};
 use std::str::from_utf8;
 use wb_arrays::Mover;
 use wb_keep::disk::MemoryFile;
 use wb_kept::OpenKeptErr;
 use wb_lines::{LineFault, NothingHeld, Sink, Source, read_all, send};
-use wb_protocol::histories::{HistoryErr, read_history};
+use wb_machine::histories::{HistoryErr, read_history};
 use wb_range::NoMemory;
 use wb_reading::{BookErr, read_book};
-
-/// The exit status where the input is no text that is wanted.
-pub const REFUSED: u8 = 1;
+use wb_statuses::{DONE, INPUT_OR_OUTPUT_FAILED, NO_MEMORY, REFUSED};
 
 // How long the header of a journal is.
 const HEADER_LENGTH: usize = 18;
@@ -192,21 +189,6 @@ pub fn status_of_verdict(verdict: Verdict) -> u8
         Verdict::Workbook(_) | Verdict::History(_, _) | Verdict::Journal(_, _) => DONE,
         Verdict::Refused => REFUSED,
     }
-}
-
-/// Prints a text: the exit status.
-pub fn tell<W: Sink>(whole: &str, writer: &mut W) -> u8
-    ensures told { (text : List ℕ) × Appends (W.contents writer.old) (W.contents writer.new) text × IsPrinted whole.now result text }
-    ensures flushed { result ≡ 0 → W.flushed writer.new ≡ true }
-    ensures failed { result ≡ 3 → W.failed writer.new ≡ true }
-{
-    if send(writer, &NothingHeld, whole.as_bytes()).is_err() {
-        return INPUT_OR_OUTPUT_FAILED;
-    }
-    if writer.flush().is_err() {
-        return INPUT_OR_OUTPUT_FAILED;
-    }
-    DONE
 }
 
 /// Prints a verdict: the exit status.

@@ -2,12 +2,11 @@
 ghost use Rattle.std.specs.Prelude.{◌≡◌};
 ghost use Rattle.wb_keep.specs.Disk.Device.{LeavesOnly, Only};
 ghost use Rattle.wb_keeping.specs.Anew.{HasEdits};
-ghost use Rattle.wb_sessions.specs.Compacting.{Compacts, EndsAnew, TellsOfAnew};
+ghost use Rattle.wb_sessions.specs.Compacting.{Compacts, CompactsAt, EndsAnew, TellsOfAnew};
 ghost use Rattle.wb_sessions.specs.Keeping.{FailsKept, IsKeptHistory, writer_alone};
 
-use crate::files::FileFault;
+use crate::files::{FileFault, OpensFiles};
 use crate::keeping::{KeptRun, opened, turned_away};
-use crate::running::{DONE, INPUT_OR_OUTPUT_FAILED, NO_MEMORY};
 use std::alloc::Global;
 use wb_arrays::Mover;
 use wb_history::History;
@@ -16,6 +15,7 @@ use wb_keep::disk::Replaces;
 use wb_keeping::compact;
 use wb_kept::Kept;
 use wb_lines::Sink;
+use wb_statuses::{DONE, INPUT_OR_OUTPUT_FAILED, NO_MEMORY};
 
 // The exit status after a journal was to be made anew, and what is told of its file.
 fn outcome_of(made: Result<(), CompactErr>) -> (u8, Option<FileFault>)
@@ -66,5 +66,30 @@ pub fn compact_with<D: Replaces, W: Sink, M: Mover>(
     match opened(alloc, file, held, mover) {
         Ok(kept) => anew(alloc, host, kept),
         Err((why, file)) => turned_away(alloc, why, file, writer),
+    }
+}
+
+/// The journal that is found at a path, made anew as by `compact_with`; the file is given back. None is made where none is found.
+pub fn compact_at<D: Replaces, J: OpensFiles<D>, W: Sink, M: Mover>(
+    alloc: Global,
+    files: &mut J,
+    path: &str,
+    writer: &mut W,
+    mover: &M,
+) -> u8
+    ensures keeps { CompactsAt D.Device J.OpensFiles path.now result files.new (writer_alone W.Sink writer.old writer.new) }
+{
+    match files.open_found(path) {
+        Ok((file, held)) => {
+            let KeptRun {
+                status,
+                fault,
+                file,
+            } = compact_with(alloc, files.host(), file, &held, writer, mover);
+            files.close(file, fault);
+            status
+        }
+        Err(FileFault::NoMemory) => NO_MEMORY,
+        Err(_) => INPUT_OR_OUTPUT_FAILED,
     }
 }

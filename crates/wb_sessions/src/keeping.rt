@@ -5,18 +5,18 @@ ghost use Rattle.wb_kept.specs.Sessions.{KeepsUntil, ReadsUntil, WritesUntil};
 ghost use Rattle.wb_history.specs.Past.{Past};
 ghost use Rattle.wb_keeping.specs.Granting.Granting.{Answers, Grants};
 ghost use Rattle.wb_sessions.specs.Keeping.{IsCause, IsKeptHistory, IsOpened, KeepsSession, TurnsAway, fault_of_end, status_of_end};
-ghost use Rattle.wb_sessions.specs.Keeping.{FailsKept, FinishesKept, RunsKept, ServesOn, streams};
+ghost use Rattle.wb_sessions.specs.Keeping.{FailsKept, FinishesKept, RunsKept, ServesOn, UsesFile, streams};
 
 use crate::checking::{Verdict, say};
-use crate::files::FileFault;
-use crate::running::{DONE, INPUT_OR_OUTPUT_FAILED, NO_MEMORY};
+use crate::files::{FileFault, OpensFiles};
 use std::alloc::{AllocError, Global};
 use wb_arrays::Mover;
 use wb_history::History;
-use wb_keep::disk::Device;
+use wb_keep::disk::{Device, Replaces};
 use wb_keeping::{KeptHistory, answer, make};
 use wb_kept::{Changes, Kept, KeptEnd, OpenKeptErr, open, serve_kept};
 use wb_lines::{Sink, Source};
+use wb_statuses::{DONE, INPUT_OR_OUTPUT_FAILED, NO_MEMORY};
 
 /// How a session with a journal came out.
 #[derive(Drop)]
@@ -169,5 +169,33 @@ pub fn run_kept_with<D: Device, R: Source, W: Sink, M: Mover>(
     match opened(alloc, file, held, mover) {
         Ok(kept) => serve_from(alloc, kept, reader, writer, mover),
         Err((why, file)) => turned_away(alloc, why, file, writer),
+    }
+}
+
+/// A session on the history that the journal at a path has, as `run_kept_with` serves it; the file is given back.
+pub fn run_kept_at<D: Replaces, J: OpensFiles<D>, R: Source, W: Sink, M: Mover>(
+    alloc: Global,
+    files: &mut J,
+    path: &str,
+    reader: &mut R,
+    writer: &mut W,
+    mover: &M,
+) -> u8
+    ensures keeps { UsesFile D.Device J.OpensFiles (RunsKept D.Device) path.now result files.new
+        (streams R.Source W.Sink reader.old reader.new writer.old writer.new) }
+    ensures done { FinishesKept result (streams R.Source W.Sink reader.old reader.new writer.old writer.new) }
+{
+    match files.open(path) {
+        Ok((file, held)) => {
+            let KeptRun {
+                status,
+                fault,
+                file,
+            } = run_kept_with(alloc, file, &held, reader, writer, mover);
+            files.close(file, fault);
+            status
+        }
+        Err(FileFault::NoMemory) => NO_MEMORY,
+        Err(_) => INPUT_OR_OUTPUT_FAILED,
     }
 }

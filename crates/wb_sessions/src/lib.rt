@@ -15,15 +15,13 @@ mod resuming;
 mod running;
 mod upgrading;
 
-pub use crate::beginning::{begin_kept_with, opening_from};
-pub use crate::checking::{REFUSED, Verdict, check_with, status_of_verdict, tell, verdict_on};
-pub use crate::compacting::compact_with;
+pub use crate::beginning::{begin_kept_with, opening_from, resume_kept_at};
+pub use crate::checking::{Verdict, check_with, status_of_verdict, verdict_on};
+pub use crate::compacting::{compact_at, compact_with};
 pub use crate::files::{FileFault, Files, OpensFiles};
-pub use crate::keeping::{KeptRun, opened, run_kept_with, turned_away};
+pub use crate::keeping::{KeptRun, opened, run_kept_at, run_kept_with, turned_away};
 pub use crate::put_back::PutBack;
 pub use crate::reasons::Reason;
 pub use crate::resuming::{history_from, resume_with};
-pub use crate::running::{
-    BAD_COMMAND_LINE, DONE, INPUT_OR_OUTPUT_FAILED, NO_MEMORY, run_with, status_of,
-};
+pub use crate::running::{run_with, status_of};
 pub use crate::upgrading::upgrade_with;

@@ -4,7 +4,7 @@ ghost use Rattle.wb_edit.specs.declared.edit.Edit as command;
 ghost use Rattle.wb_history.specs.Past.{Numbered};
 ghost use Rattle.wb_history.specs.Restored.{one_of, BeginsNone};
 ghost use Rattle.wb_lines.specs.Lines.{ended, IsUnbroken};
-ghost use Rattle.wb_protocol.specs.Histories.Text.{mark, said, IsSaid};
+ghost use Rattle.wb_machine.specs.Histories.Text.{mark, said, IsSaid};
 ghost use Rattle.wb_sessions.specs.Places.{line_ends, HasNoCount, LeavesBehind, StandsBelow, WhyAltered};
 
 use crate::reasons::Reason;
@@ -13,9 +13,9 @@ use std::alloc::Global;
 use wb_arrays::Mover;
 use wb_edit::Edit;
 use wb_history::{History, RestoreErr, put_in};
-use wb_protocol::encoding::edit_text;
-use wb_protocol::histories::{edit_of, marked_at};
+use wb_machine::histories::{edit_of, marked_at};
 use wb_range::NoMemory;
+use wb_requests::encoding::edit_text;
 
 // What the line begins with that counts the edits, with the line end before it.
 const COUNT_WORD: &[u8] = b"\nhistory ";

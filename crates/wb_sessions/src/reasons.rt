@@ -6,7 +6,7 @@ use crate::places::why_altered;
 use std::alloc::Global;
 use std::str::from_utf8;
 use wb_arrays::Mover;
-use wb_protocol::histories::{HistoryErr, read_history};
+use wb_machine::histories::{HistoryErr, read_history};
 use wb_range::NoMemory;
 use wb_reading::{BookErr, read_book};
 

@@ -2,7 +2,8 @@
 ghost use Rattle.std.specs.Prelude.{◌≡◌, ◌++◌, ◌⊎◌, ℕ, List, [], Some, true, IfOk, IfErr, IfSome, IfNone, OnOk, OnErr, option_map};
 ghost use Rattle.std.specs.Io.KnownBytes.{Appends, Consumes, IsAtEnd};
 ghost use Rattle.wb_lines.specs.Causes.{RisesBy, StopsReading};
-ghost use Rattle.wb_sessions.specs.Checking.{IsAnswered, IsNoRecord, IsFault, Says};
+ghost use Rattle.wb_sessions.specs.Checking.{IsAnswered, IsNoRecord, Says};
+ghost use Rattle.wb_statuses.specs.Statuses.{IsFault};
 ghost use Rattle.wb_sessions.specs.Reasons.{Tells, WhyNoHistory, WhyNoOpening};
 ghost use Rattle.wb_sessions.specs.Running.{HasFailed, HasFailedByNow};
 ghost use Rattle.wb_sessions.specs.Resuming.{left_in, failed_in, reads_in, IsRecord, IsUpToEnd, HasNoEnd, IsServed, IsResumed, IsOpening};
@@ -12,16 +13,17 @@ ghost use Rattle.wb_sessions.specs.declared.reasons.Reason.{Reason};
 use crate::checking::{Verdict, say};
 use crate::put_back::PutBack;
 use crate::reasons::{Reason, look_of, why_no_history};
-use crate::running::{INPUT_OR_OUTPUT_FAILED, NO_MEMORY, status_of};
+use crate::running::status_of;
 use memchr::memmem;
 use std::alloc::Global;
 use std::str::from_utf8;
 use wb_arrays::Mover;
 use wb_history::History;
 use wb_lines::{LineFault, READ_LIMIT, Sink, Source, read_all, read_more};
-use wb_protocol::histories::{HistoryErr, read_history};
-use wb_protocol::session;
+use wb_machine::histories::{HistoryErr, read_history};
+use wb_machine::session;
 use wb_range::NoMemory;
+use wb_statuses::{INPUT_OR_OUTPUT_FAILED, NO_MEMORY};
 
 // The last line of the text of a history, with the line end before it.
 const LAST_LINE: &[u8] = b"\nend\n";

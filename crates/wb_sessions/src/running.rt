@@ -10,16 +10,8 @@ use std::alloc::Global;
 use wb_arrays::Mover;
 use wb_history::History;
 use wb_lines::{SessionEnd, Sink, Source};
-use wb_protocol::session;
-
-/// The exit status of a session that was answered to its end.
-pub const DONE: u8 = 0;
-/// The exit status after a command line that asks for nothing that there is.
-pub const BAD_COMMAND_LINE: u8 = 2;
-/// The exit status where input or output failed.
-pub const INPUT_OR_OUTPUT_FAILED: u8 = 3;
-/// The exit status where a growth was refused.
-pub const NO_MEMORY: u8 = 4;
+use wb_machine::session;
+use wb_statuses::{DONE, INPUT_OR_OUTPUT_FAILED, NO_MEMORY};
 
 /// Answers each line of the reader on an empty workbook: the exit status. What was read and written is a session from
 /// the empty history, a run of the machine over its lines. Status 0 comes only at the end of input, with every line

@@ -2,7 +2,8 @@
 ghost use Rattle.std.specs.Prelude.{◌≡◌, ◌⊎◌, ◌++◌, ℕ, List, [], Some, true, IfOk, IfErr, OnOk, OnErr, IfSome, IfNone};
 ghost use Rattle.std.specs.Io.KnownBytes.{Appends, Consumes, IsAtEnd};
 ghost use Rattle.wb_reading.specs.Reading.{IsNoBook};
-ghost use Rattle.wb_sessions.specs.Checking.{IsAnswered, IsFault, IsPrinted, Says};
+ghost use Rattle.wb_sessions.specs.Checking.{IsAnswered, Says};
+ghost use Rattle.wb_statuses.specs.Statuses.{IsFault, IsPrinted};
 ghost use Rattle.wb_sessions.specs.Reasons.{Tells, WhyNoBook};
 ghost use Rattle.wb_sessions.specs.Running.{HasFailed};
 ghost use Rattle.wb_sessions.specs.Upgrading.{AppendsFront, HasNoBook, Upgrades, UpgradesBook, text_by_lines};
@@ -12,14 +13,14 @@ ghost use Rattle.wb_text.specs.Texts.Books.{IsBookText};
 
 use crate::checking::{Verdict, say};
 use crate::reasons::{Reason, why_no_book};
-use crate::running::{DONE, INPUT_OR_OUTPUT_FAILED, NO_MEMORY};
 use std::alloc::Global;
 use std::str::from_utf8;
 use wb_arrays::Mover;
 use wb_lines::{LineFault, NothingHeld, Sink, Source, WriteFault, read_all, send};
-use wb_protocol::encoding::{load_line, objects_in};
+use wb_machine::encoding::{load_line, objects_in};
 use wb_range::NoMemory;
 use wb_reading::{BookErr, read_book};
+use wb_statuses::{DONE, INPUT_OR_OUTPUT_FAILED, NO_MEMORY};
 
 // That a text is the text of a workbook. The workbook is let go.
 fn check_book(alloc: Global, text: &str) -> Result<(), BookErr>

@@ -13,7 +13,7 @@ use Rattle.std.specs.List.Sorted.{IsStrictlySortedBy}
 use Rattle.std.proofs.lemmas.Map.Keys.{Less-from_sorted, sorted_tail}
 use Rattle.std.proofs.lemmas.List.{drop_all}
 use Rattle.wb_sets.specs.Merge.{with_if, all_if, IsKept, in_first, in_both, in_second}
-use Rattle.wb_sets.specs.declared.merging.Kept.{Kept}
+use Rattle.wb_sets.specs.declared.merging.KeptKeys.{KeptKeys}
 use Rattle.wb_sets.proofs.Members.{contains_cons, cons_contains, first_contains, one_less}
 use Rattle.wb_sets.proofs.Merged.{by_order, merged_first, merged}
 use Rattle.wb_range.specs.Lookup.{has}
@@ -28,7 +28,7 @@ split_with_if true x zs k m = by (contains_cons x zs k m.0 m.1 m.2)
 split_with_if false x zs k m = inr m
 
 -- the merge of a list with none
-pub merged_none : {K : Type 0} (cmp : K → K → Ordering) (kept : Kept) (xs : List K) → merged cmp kept xs [] ≡ all_if kept.first xs
+pub merged_none : {K : Type 0} (cmp : K → K → Ordering) (kept : KeptKeys) (xs : List K) → merged cmp kept xs [] ≡ all_if kept.first xs
 merged_none cmp kept [] = both_none kept.second kept.first
   where
     both_none : {K : Type 0} (a b : Bool) → all_if {K = K} a [] ≡ all_if b []
@@ -47,7 +47,7 @@ none_if true = refl
 none_if false = refl
 
 -- at the end of one list the rest of both is what is left of the merge
-pub merged_rest : {K : Type 0} (cmp : K → K → Ordering) (kept : Kept) (xs ys : List K) (i j : ℕ) → (length xs ≤ i) ⊎ (length ys ≤ j) →
+pub merged_rest : {K : Type 0} (cmp : K → K → Ordering) (kept : KeptKeys) (xs ys : List K) (i j : ℕ) → (length xs ≤ i) ⊎ (length ys ≤ j) →
     all_if kept.first (drop i xs) ++ all_if kept.second (drop j ys) ≡ merged cmp kept (drop i xs) (drop j ys)
 merged_rest cmp kept xs ys i j (inl l) = let e = drop_all i xs l in rw (e, none_if kept.first) refl
 merged_rest cmp kept xs ys i j (inr l) = let e = drop_all j ys l in
@@ -57,7 +57,7 @@ all_if_from : {K : Type 0} (b : Bool) (xs : List K) (k : K) → Contains (all_if
 all_if_from true xs k m = m
 all_if_from false xs k m = absurd (omega (arith, m.1))
 
-from_first : {K : Type 0} (cmp : K → K → Ordering) (kept : Kept) (x : K) (xs ys : List K) (k : K) →
+from_first : {K : Type 0} (cmp : K → K → Ordering) (kept : KeptKeys) (x : K) (xs ys : List K) (k : K) →
     ((zs : List K) → Contains (merged cmp kept xs zs) k → Contains xs k ⊎ Contains zs k) → Contains (merged_first cmp kept x (merged cmp kept xs) ys) k →
     Contains (x ∷ xs) k ⊎ Contains ys k
 from_first {K = K} cmp kept x xs [] k again m = by (split_with_if kept.first x (merged cmp kept xs []) k m)
@@ -100,7 +100,7 @@ from_first {K = K} cmp kept x xs (y ∷ ys) k again m = by (cmp x y) m (λ h. fr
     by Greater h on = greater on (split_with_if kept.second y (merged_first cmp kept x (merged cmp kept xs) ys) k h)
 
 -- each key of a merge is a key of one of the lists
-pub from-merged : {K : Type 0} (cmp : K → K → Ordering) (kept : Kept) (xs ys : List K) (k : K) → Contains (merged cmp kept xs ys) k → Contains xs k ⊎
+pub from-merged : {K : Type 0} (cmp : K → K → Ordering) (kept : KeptKeys) (xs ys : List K) (k : K) → Contains (merged cmp kept xs ys) k → Contains xs k ⊎
     Contains ys k
 from-merged cmp kept [] ys k m = inr (all_if_from kept.second ys k m)
 from-merged cmp kept (x ∷ xs) ys k m = from_first cmp kept x xs ys k (λ zs h. from-merged cmp kept xs zs k h) m
@@ -141,14 +141,14 @@ module _ {K : Type 0} (cmp : K → K → Ordering) (total : IsTotalOrder cmp) (e
       by (inl e) = subst (λ (y : K). cmp z y ≡ Less) (sym e) h
       by (inr n) = total.trans z x k h (a k n)
 
-  above_merged : (kept : Kept) (z : K) (xs ys : List K) → IsAbove cmp z xs → IsAbove cmp z ys → IsAbove cmp z (merged cmp kept xs ys)
+  above_merged : (kept : KeptKeys) (z : K) (xs ys : List K) → IsAbove cmp z xs → IsAbove cmp z ys → IsAbove cmp z (merged cmp kept xs ys)
   above_merged kept z xs ys a b k m = by (from-merged cmp kept xs ys k m)
     where
       by : Contains xs k ⊎ Contains ys k → cmp z k ≡ Less
       by (inl n) = a k n
       by (inr n) = b k n
 
-  sorted_first : (kept : Kept) (x : K) (xs ys : List K) → IsStrictlySortedBy cmp (x ∷ xs) → IsStrictlySortedBy cmp ys →
+  sorted_first : (kept : KeptKeys) (x : K) (xs ys : List K) → IsStrictlySortedBy cmp (x ∷ xs) → IsStrictlySortedBy cmp ys →
       ((zs : List K) → IsStrictlySortedBy cmp zs → IsStrictlySortedBy cmp (merged cmp kept xs zs)) →
       IsStrictlySortedBy cmp (merged_first cmp kept x (merged cmp kept xs) ys)
   sorted_first kept x xs [] s t again = sorted_with_if cmp kept.first x (merged cmp kept xs [])
@@ -169,7 +169,7 @@ module _ {K : Type 0} (cmp : K → K → Ordering) (total : IsTotalOrder cmp) (e
           sorted_with_if cmp kept.second y (merged_first cmp kept x (merged cmp kept xs) ys)
           (above_merged kept y (x ∷ xs) ys (above_cons y x xs f (head_below cmp x xs s)) (head_below cmp y ys t)) on
 
-  pub sorted-merged : (kept : Kept) (xs ys : List K) → IsStrictlySortedBy cmp xs → IsStrictlySortedBy cmp ys → IsStrictlySortedBy cmp (merged cmp kept xs ys)
+  pub sorted-merged : (kept : KeptKeys) (xs ys : List K) → IsStrictlySortedBy cmp xs → IsStrictlySortedBy cmp ys → IsStrictlySortedBy cmp (merged cmp kept xs ys)
   sorted-merged kept [] ys s t = sorted_all_if cmp kept.second ys t
   sorted-merged kept (x ∷ xs) ys s t = sorted_first kept x xs ys s t (λ zs u. sorted-merged kept xs zs (sorted_tail cmp x xs s) u)
 
@@ -185,7 +185,7 @@ module _ {K : Type 0} (cmp : K → K → Ordering) (total : IsTotalOrder cmp) (e
   pub not_above_itself : (x : K) (xs : List K) → IsAbove cmp x xs → Contains xs x → ⊥
   not_above_itself x xs h m = let e : cmp x x ≡ Equal = tied_itself total x in let z : Less ≡ Equal = sym (h x m) ∙ e in cc
 
-lifted : {K : Type 0} (kept : Kept) (xs ys xs' ys' : List K) (k : K) → Contains xs k ↔ Contains xs' k → Contains ys k ↔ Contains ys' k → IsKept kept xs ys k →
+lifted : {K : Type 0} (kept : KeptKeys) (xs ys xs' ys' : List K) (k : K) → Contains xs k ↔ Contains xs' k → Contains ys k ↔ Contains ys' k → IsKept kept xs ys k →
     IsKept kept xs' ys' k
 lifted kept xs ys xs' ys' k f g (in_first e a b) = in_first e (f.0 a) (λ m. b (g.1 m))
 lifted kept xs ys xs' ys' k f g (in_both e a b) = in_both e (f.0 a) (g.0 b)
@@ -205,7 +205,7 @@ with_itself false x zs k e n = (λ m. absurd (n (subst (λ y. Contains zs y) e m
 unchanged : {K : Type 0} (xs : List K) (k : K) → Contains xs k ↔ Contains xs k
 unchanged xs k = (λ m. m, λ m. m)
 
-first_only : {K : Type 0} (kept : Kept) (xs ys : List K) (k : K) → Contains xs k → (Contains ys k → ⊥) → (kept.first ≡ true) ↔ IsKept kept xs ys k
+first_only : {K : Type 0} (kept : KeptKeys) (xs ys : List K) (k : K) → Contains xs k → (Contains ys k → ⊥) → (kept.first ≡ true) ↔ IsKept kept xs ys k
 first_only {K = K} kept xs ys k a n = (λ e. in_first e a n, back)
   where
     back : IsKept kept xs ys k → kept.first ≡ true
@@ -213,7 +213,7 @@ first_only {K = K} kept xs ys k a n = (λ e. in_first e a n, back)
     back (in_both _ _ b) = absurd (n b)
     back (in_second _ _ b) = absurd (n b)
 
-both_only : {K : Type 0} (kept : Kept) (xs ys : List K) (k : K) → Contains xs k → Contains ys k → (kept.both ≡ true) ↔ IsKept kept xs ys k
+both_only : {K : Type 0} (kept : KeptKeys) (xs ys : List K) (k : K) → Contains xs k → Contains ys k → (kept.both ≡ true) ↔ IsKept kept xs ys k
 both_only {K = K} kept xs ys k a b = (λ e. in_both e a b, back)
   where
     back : IsKept kept xs ys k → kept.both ≡ true
@@ -221,7 +221,7 @@ both_only {K = K} kept xs ys k a b = (λ e. in_both e a b, back)
     back (in_both e _ _) = e
     back (in_second _ n _) = absurd (n a)
 
-second_only : {K : Type 0} (kept : Kept) (xs ys : List K) (k : K) → (Contains xs k → ⊥) → Contains ys k → (kept.second ≡ true) ↔ IsKept kept xs ys k
+second_only : {K : Type 0} (kept : KeptKeys) (xs ys : List K) (k : K) → (Contains xs k → ⊥) → Contains ys k → (kept.second ≡ true) ↔ IsKept kept xs ys k
 second_only {K = K} kept xs ys k n b = (λ e. in_second e n b, back)
   where
     back : IsKept kept xs ys k → kept.second ≡ true
@@ -236,7 +236,7 @@ moved_to : {K : Type 0} (x y : K) (zs : List K) → y ≡ x → (Contains zs x �
 moved_to x y zs e n m = n (subst (λ z. Contains zs z) e m)
 
 module _ {K : Type 0} (cmp : K → K → Ordering) (total : IsTotalOrder cmp) (exact : IsAntisymmetric cmp) where
-  members_first : (kept : Kept) (x : K) (xs ys : List K) (k : K) → IsStrictlySortedBy cmp (x ∷ xs) → IsStrictlySortedBy cmp ys →
+  members_first : (kept : KeptKeys) (x : K) (xs ys : List K) (k : K) → IsStrictlySortedBy cmp (x ∷ xs) → IsStrictlySortedBy cmp ys →
       ((zs : List K) → IsStrictlySortedBy cmp zs → Contains (merged cmp kept xs zs) k ↔ IsKept kept xs zs k) →
       Contains (merged_first cmp kept x (merged cmp kept xs) ys) k ↔ IsKept kept (x ∷ xs) ys k
   members_first kept x xs [] k s t again = by (same_or_not cmp total exact k x)
@@ -300,7 +300,7 @@ module _ {K : Type 0} (cmp : K → K → Ordering) (total : IsTotalOrder cmp) (e
             lifted kept (x ∷ xs) (y ∷ ys) (x ∷ xs) ys k (unchanged (x ∷ xs) k) (j.1, j.0),
           )
 
-  all_or_none : (kept : Kept) (b : Bool) (ys : List K) (k : K) → kept.second ≡ b → Contains (all_if b ys) k ↔ IsKept kept [] ys k
+  all_or_none : (kept : KeptKeys) (b : Bool) (ys : List K) (k : K) → kept.second ≡ b → Contains (all_if b ys) k ↔ IsKept kept [] ys k
   all_or_none kept true ys k e = (λ m. in_second e (λ n. absurd (omega (arith, n.1))) m, back)
     where
       back : IsKept kept [] ys k → Contains ys k
@@ -315,7 +315,7 @@ module _ {K : Type 0} (cmp : K → K → Ordering) (total : IsTotalOrder cmp) (e
       back (in_second f _ _) = let z : true ≡ false = sym f ∙ e in absurd (cc)
 
   -- a merge has exactly the keys that are kept
-  pub members-merged : (kept : Kept) (xs ys : List K) (k : K) → IsStrictlySortedBy cmp xs → IsStrictlySortedBy cmp ys → Contains (merged cmp kept xs ys) k ↔
+  pub members-merged : (kept : KeptKeys) (xs ys : List K) (k : K) → IsStrictlySortedBy cmp xs → IsStrictlySortedBy cmp ys → Contains (merged cmp kept xs ys) k ↔
       IsKept kept xs ys k
   members-merged kept [] ys k s t = all_or_none kept kept.second ys k refl
   members-merged kept (x ∷ xs) ys k s t = members_first kept x xs ys k s t (λ zs u. members-merged kept xs zs k (sorted_tail cmp x xs s) u)

@@ -1,10 +1,10 @@
 -- What a set operation keeps of two sets.
 use Rattle.std.specs.Prelude.{◌≡◌, Bool, true, false, List, [], ◌∷◌}
 use Rattle.std.specs.List.{Contains}
-use Rattle.wb_sets.specs.declared.merging.Kept.{Kept}
+use Rattle.wb_sets.specs.declared.merging.KeptKeys.{KeptKeys}
 
 -- a key that a set operation keeps: of the first set alone, of both, of the second alone
-pub data IsKept {K : Type 0} (kept : Kept) (xs ys : List K) (k : K) : Type 0 where
+pub data IsKept {K : Type 0} (kept : KeptKeys) (xs ys : List K) (k : K) : Type 0 where
   in_first : kept.first ≡ true → Contains xs k → (Contains ys k → ⊥) → IsKept kept xs ys k
   in_both : kept.both ≡ true → Contains xs k → Contains ys k → IsKept kept xs ys k
   in_second : kept.second ≡ true → (Contains xs k → ⊥) → Contains ys k → IsKept kept xs ys k

@@ -5,7 +5,7 @@ ghost use Rattle.wb_range.specs.Domain.{IsListedOnce};
 ghost use Rattle.wb_sets.specs.Merge.{IsKept};
 ghost use Rattle.wb_sets.specs.Places.{IsGap};
 
-use crate::merging::{DIFFERENCE, INTERSECTION, Kept, SYMMETRIC_DIFFERENCE, UNION, merge};
+use crate::merging::{DIFFERENCE, INTERSECTION, KeptKeys, SYMMETRIC_DIFFERENCE, UNION, merge};
 use std::alloc::Global;
 use std::marker::Model;
 use wb_range::{Domain, Key, NoMemory};
@@ -153,7 +153,7 @@ impl<K: Key> Assoc<K> {
     }
 
     // The indices that a set operation keeps, in one pass over both sets.
-    fn merged_with(&self, other: &Assoc<K>, kept: Kept) -> Result<Assoc<K>, NoMemory>
+    fn merged_with(&self, other: &Assoc<K>, kept: KeptKeys) -> Result<Assoc<K>, NoMemory>
         ensures members { IfOk result (λ r. (k : K) → Contains r k ↔ IsKept kept self.now other.now k) }
         ensures ascending { IfOk result (λ r. IsStrictlySortedBy K.cmp r) }
     {

@@ -112,14 +112,16 @@ fn is_label(source: &[u8]) -> bool
     are_plain(source)
 }
 
-// Whether a label may have each of these bytes.
-fn are_plain(source: &[u8]) -> bool
+/// Whether each of these bytes may stand in a label: none is `"`, `\`, below U+0020 or U+007F.
+///
+/// Bytes from 0x80 on are parts of longer characters.
+pub fn are_plain(source: &[u8]) -> bool
     ensures { result ≡ list_all is_plain source.now }
 {
     source.iter().all(|c| is_plain(*c))
 }
 
-// Whether a label may have this byte: those from 0x80 on are parts of longer characters.
+// Whether this byte may stand in a label.
 fn is_plain(c: u8) -> bool
     ensures { result ≡ is_plain c }
 {

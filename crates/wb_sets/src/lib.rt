@@ -18,6 +18,6 @@ mod short_label;
 mod sparse;
 
 pub use crate::assoc::Assoc;
-pub use crate::label::{BadLabel, Label};
+pub use crate::label::{BadLabel, Label, are_plain};
 pub use crate::short_label::ShortLabel;
 pub use crate::sparse::{Sparse, SparseErr};

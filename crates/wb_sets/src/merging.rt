@@ -9,42 +9,47 @@ use wb_range::{Key, NoMemory};
 
 /// Which keys of two sets a set operation keeps: those of the first alone, of both, of the second alone.
 #[derive(Clone, Copy)]
-pub struct Kept {
-    pub first: bool,
-    pub both: bool,
-    pub second: bool,
+pub(crate) struct KeptKeys {
+    pub(crate) first: bool,
+    pub(crate) both: bool,
+    pub(crate) second: bool,
 }
 
 /// The keys of either set.
-pub const UNION: Kept = Kept {
+pub(crate) const UNION: KeptKeys = KeptKeys {
     first: true,
     both: true,
     second: true,
 };
 
 /// The keys of both sets.
-pub const INTERSECTION: Kept = Kept {
+pub(crate) const INTERSECTION: KeptKeys = KeptKeys {
     first: false,
     both: true,
     second: false,
 };
 
 /// The keys that the second set doesn't have.
-pub const DIFFERENCE: Kept = Kept {
+pub(crate) const DIFFERENCE: KeptKeys = KeptKeys {
     first: true,
     both: false,
     second: false,
 };
 
 /// The keys of exactly one of the sets.
-pub const SYMMETRIC_DIFFERENCE: Kept = Kept {
+pub(crate) const SYMMETRIC_DIFFERENCE: KeptKeys = KeptKeys {
     first: true,
     both: false,
     second: true,
 };
 
 /// The keys of two ascending slices that `kept` says, ascending, in one pass over both.
-pub fn merge<K: Key>(alloc: Global, xs: &[K], ys: &[K], kept: Kept) -> Result<Vec<K>, NoMemory>
+pub(crate) fn merge<K: Key>(
+    alloc: Global,
+    xs: &[K],
+    ys: &[K],
+    kept: KeptKeys,
+) -> Result<Vec<K>, NoMemory>
     requires first { IsStrictlySortedBy K.cmp xs.now }
     requires second { IsStrictlySortedBy K.cmp ys.now }
     ensures members { IfOk result (λ v. (k : K) → Contains v.items k ↔ IsKept kept xs.now ys.now k) }

@@ -15,8 +15,8 @@ use wb_keep::START;
 use wb_keep::disk::MemoryFile;
 use wb_lending::{Guests, Next};
 use wb_lines::{Input, Output};
+use wb_program::{lend_on, stay, stay_kept_with};
 use wb_sessions::{FileFault, KeptRun};
-use wb_staying::{lend_on, stay, stay_kept_with};
 use wb_visits::{BindErr, Lands, Left, Surplus, Visit};
 
 // More calls than a desk makes here.

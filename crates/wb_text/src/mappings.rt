@@ -5,7 +5,7 @@ ghost use Rattle.wb_text.specs.Literals.{rectangle_text, point_text, last_grid_t
 
 use crate::literals::{push_list, push_point, push_rectangle};
 use std::alloc::{AllocError, Global};
-use wb_cells::{AnyLayout, AnyRect, Laid, Ranked};
+use wb_cells::{AnyLayout, AnyRect, LayoutByRank, Ranked};
 use wb_dist::{Block, BlockCyclic, Cyclic, Distribution, Layout};
 use wb_range::Range;
 use wb_rect::Rect;
@@ -108,9 +108,9 @@ pub fn push_any_rect(alloc: Global, out: &mut String, rect: &AnyRect) -> Result<
     ensures { OnOk result (string_bytes out.new ≡ string_bytes out.old ++ rectangle_text rect.now) }
 {
     match rect.ranked() {
-        Ranked::Line(line) => push_rect(alloc, out, &line),
-        Ranked::Plane(plane) => push_rect(alloc, out, &plane),
-        Ranked::Solid(solid) => push_rect(alloc, out, &solid),
+        Ranked::Rank1(line) => push_rect(alloc, out, &line),
+        Ranked::Rank2(plane) => push_rect(alloc, out, &plane),
+        Ranked::Rank3(solid) => push_rect(alloc, out, &solid),
     }
 }
 
@@ -123,9 +123,9 @@ pub fn push_any_layout(
     ensures { OnOk result (string_bytes out.new ≡ string_bytes out.old ++ mapping_text layout.now) }
 {
     match layout.laid() {
-        Laid::Whole => out.push_str("none"),
-        Laid::Line(line) => push_layout(alloc, out, &line),
-        Laid::Plane(plane) => push_layout(alloc, out, &plane),
-        Laid::Solid(solid) => push_layout(alloc, out, &solid),
+        LayoutByRank::Whole => out.push_str("none"),
+        LayoutByRank::Rank1(line) => push_layout(alloc, out, &line),
+        LayoutByRank::Rank2(plane) => push_layout(alloc, out, &plane),
+        LayoutByRank::Rank3(solid) => push_layout(alloc, out, &solid),
     }
 }

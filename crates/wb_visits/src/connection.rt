@@ -14,7 +14,7 @@ pub enum Connection {
 }
 
 impl Connection {
-    /// The same connection once more.
+    /// Another handle of this connection.
     pub fn again(&self) -> io::Result<Connection> {
         match self {
             Connection::Port(stream) => Ok(Connection::Port(stream.try_clone()?)),
@@ -31,7 +31,7 @@ impl Connection {
     }
 
     /// Has its reads and writes wait for so many milliseconds at most.
-    pub fn set_patience(&self, millis: u64) -> io::Result<()> {
+    pub(crate) fn set_patience(&self, millis: u64) -> io::Result<()> {
         let most = Some(Duration::from_millis(millis));
         match self {
             Connection::Port(stream) => {

@@ -199,7 +199,7 @@ pub struct Landings<'a, R> {
 }
 
 impl<'a, R> Landings<'a, R> {
-    /// The same, by a handle of the network and the files.
+    /// The ports and the sockets, by a handle of the network and the files.
     pub fn of(rt: &'a R, alloc: Global, stop: Stop, idle: u32) -> Landings<'a, R> {
         Landings {
             rt,

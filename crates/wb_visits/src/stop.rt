@@ -22,7 +22,7 @@ impl Stop {
         })
     }
 
-    /// The same once more.
+    /// Another handle of this word: what is told to one is told to both.
     pub fn again(&self) -> Result<Stop, AllocError> {
         Ok(Stop {
             is_told: Arc::try_clone(&self.is_told)?,

@@ -48,7 +48,7 @@ impl Trace {
         })
     }
 
-    /// The same once more.
+    /// Another handle of this trace: both note in one place.
     pub fn again(&self) -> Result<Trace, AllocError> {
         Ok(Trace {
             noted: Arc::try_clone(&self.noted)?,

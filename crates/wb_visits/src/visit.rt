@@ -22,8 +22,8 @@ impl<I, O> Visit<I, O> {
         }
     }
 
-    /// The same, of which its reader and its writer note what is to be told of it.
-    pub fn traced(reader: I, writer: O, trace: Trace) -> Visit<I, O>
+    /// A connection whose reader and writer note what is to be told of it.
+    pub(crate) fn traced(reader: I, writer: O, trace: Trace) -> Visit<I, O>
         ensures { (result.reader ≡ reader) × (result.writer ≡ writer) }
     {
         Visit {
@@ -33,7 +33,7 @@ impl<I, O> Visit<I, O> {
         }
     }
 
-    /// Its reader and its writer, and what is left of it then.
+    /// The reader and the writer, and what is left of the connection then.
     pub fn into_parts(self) -> (I, O, Left)
         ensures { (result.0 ≡ self.reader) × (result.1 ≡ self.writer) × (result.2.is_last ≡ false) }
     {
@@ -57,7 +57,7 @@ pub struct Left {
 }
 
 impl Left {
-    /// The same of a connection after which nobody is to come any more.
+    /// What is left of a connection after which nobody is to come any more.
     pub fn as_last(self) -> Left
         ensures { result.is_last ≡ true }
     {
@@ -95,8 +95,8 @@ impl<O> Surplus<O> {
         Surplus { writer }
     }
 
-    /// Its writer.
-    pub fn into_writer(self) -> O
+    /// The writer.
+    pub(crate) fn into_writer(self) -> O
         ensures { result ≡ self.writer }
     {
         let Surplus { writer } = self;

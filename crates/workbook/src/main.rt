@@ -14,13 +14,11 @@ use std::{env, thread};
 use wb_arrays::{Crew, Mover};
 use wb_command::{Asked, CommandErr, FilePath, Misfit, Place, Stay, Wanted, command_of};
 use wb_company::Company;
+use wb_connections::Ports;
 use wb_lines::{Input, Output};
-use wb_program::{Ports, do_asked};
-use wb_sessions::{
-    BAD_COMMAND_LINE, DONE, FileFault, Files, INPUT_OR_OUTPUT_FAILED, NO_MEMORY, PutBack, REFUSED,
-    Reason,
-};
-use wb_staying::{stay, stay_kept};
+use wb_program::{do_asked, stay, stay_kept};
+use wb_sessions::{FileFault, Files, PutBack, Reason};
+use wb_statuses::{BAD_COMMAND_LINE, DONE, INPUT_OR_OUTPUT_FAILED, NO_MEMORY, REFUSED};
 use wb_visits::{Landings, Stop, wait_for_stop};
 
 /// The words of most command lines: so many are lent without memory of their own.

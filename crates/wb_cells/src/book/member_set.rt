@@ -23,11 +23,11 @@ use wb_sets::{Label, ShortLabel};
 #[derive(Drop)]
 pub(crate) enum MemberForm {
     /// Integers.
-    Line(BTreeSet<[i64; 1]>),
+    Rank1(BTreeSet<[i64; 1]>),
     /// Pairs.
-    Plane(BTreeSet<[i64; 2]>),
+    Rank2(BTreeSet<[i64; 2]>),
     /// Triples.
-    Solid(BTreeSet<[i64; 3]>),
+    Rank3(BTreeSet<[i64; 3]>),
     /// Texts of at most 23 bytes.
     Short(BTreeSet<ShortLabel>),
     /// Texts.
@@ -198,9 +198,9 @@ fn fits(form: &MemberForm, index: &AnyIndex) -> bool
     ensures { result ≡ is_of_form form.now index.now }
 {
     match form {
-        MemberForm::Line(_) => has_form::<[i64; 1]>(index),
-        MemberForm::Plane(_) => has_form::<[i64; 2]>(index),
-        MemberForm::Solid(_) => has_form::<[i64; 3]>(index),
+        MemberForm::Rank1(_) => has_form::<[i64; 1]>(index),
+        MemberForm::Rank2(_) => has_form::<[i64; 2]>(index),
+        MemberForm::Rank3(_) => has_form::<[i64; 3]>(index),
         MemberForm::Short(_) => has_form::<ShortLabel>(index),
         MemberForm::Text(_) => has_form::<Label>(index),
         MemberForm::Mixed(_) => has_form::<AnyIndex>(index),
@@ -218,9 +218,9 @@ fn put_form(form: &mut MemberForm, index: &AnyIndex) -> Result<(), NoMemory>
     ensures ascending { IsStrictlySortedBy index_cmp (listed form.new) }
 {
     match form {
-        MemberForm::Line(set) => put_in(set, index),
-        MemberForm::Plane(set) => put_in(set, index),
-        MemberForm::Solid(set) => put_in(set, index),
+        MemberForm::Rank1(set) => put_in(set, index),
+        MemberForm::Rank2(set) => put_in(set, index),
+        MemberForm::Rank3(set) => put_in(set, index),
         MemberForm::Short(set) => put_in(set, index),
         MemberForm::Text(set) => put_in(set, index),
         MemberForm::Mixed(set) => put_in(set, index),
@@ -235,9 +235,9 @@ fn take_form(form: &mut MemberForm, index: &AnyIndex)
     ensures ascending { IsStrictlySortedBy index_cmp (listed form.new) }
 {
     match form {
-        MemberForm::Line(set) => take_in(set, index),
-        MemberForm::Plane(set) => take_in(set, index),
-        MemberForm::Solid(set) => take_in(set, index),
+        MemberForm::Rank1(set) => take_in(set, index),
+        MemberForm::Rank2(set) => take_in(set, index),
+        MemberForm::Rank3(set) => take_in(set, index),
         MemberForm::Short(set) => take_in(set, index),
         MemberForm::Text(set) => take_in(set, index),
         MemberForm::Mixed(set) => take_in(set, index),
@@ -250,13 +250,13 @@ fn form_of(alloc: Global, index: &AnyIndex) -> Result<MemberForm, NoMemory>
     ensures kept { IfOk result IsKept }
 {
     if has_form::<[i64; 1]>(index) {
-        return Ok(MemberForm::Line(one_in(alloc, index)?));
+        return Ok(MemberForm::Rank1(one_in(alloc, index)?));
     }
     if has_form::<[i64; 2]>(index) {
-        return Ok(MemberForm::Plane(one_in(alloc, index)?));
+        return Ok(MemberForm::Rank2(one_in(alloc, index)?));
     }
     if has_form::<[i64; 3]>(index) {
-        return Ok(MemberForm::Solid(one_in(alloc, index)?));
+        return Ok(MemberForm::Rank3(one_in(alloc, index)?));
     }
     if has_form::<ShortLabel>(index) {
         return Ok(MemberForm::Short(one_in(alloc, index)?));
@@ -303,9 +303,9 @@ fn form_with(alloc: Global, form: &MemberForm, index: &AnyIndex) -> Result<Membe
     ensures ascending { IfOk result (λ f. IsStrictlySortedBy index_cmp (listed f)) }
 {
     match form {
-        MemberForm::Line(set) => mixed_with(alloc, set, index),
-        MemberForm::Plane(set) => mixed_with(alloc, set, index),
-        MemberForm::Solid(set) => mixed_with(alloc, set, index),
+        MemberForm::Rank1(set) => mixed_with(alloc, set, index),
+        MemberForm::Rank2(set) => mixed_with(alloc, set, index),
+        MemberForm::Rank3(set) => mixed_with(alloc, set, index),
         MemberForm::Short(set) => short_with(alloc, set, index),
         MemberForm::Text(set) => mixed_with(alloc, set, index),
         MemberForm::Mixed(set) => mixed_with(alloc, set, index),
@@ -327,9 +327,9 @@ impl MemberSet {
         ensures { result ≡ has self.now index.now }
     {
         match &self.form {
-            MemberForm::Line(set) => has_in(set, index),
-            MemberForm::Plane(set) => has_in(set, index),
-            MemberForm::Solid(set) => has_in(set, index),
+            MemberForm::Rank1(set) => has_in(set, index),
+            MemberForm::Rank2(set) => has_in(set, index),
+            MemberForm::Rank3(set) => has_in(set, index),
             MemberForm::Short(set) => has_in(set, index),
             MemberForm::Text(set) => has_in(set, index),
             MemberForm::Mixed(set) => has_in(set, index),
@@ -366,9 +366,9 @@ impl MemberSet {
         ensures ascending { IsStrictlySortedBy index_cmp self.now }
     {
         match &self.form {
-            MemberForm::Line(set) => count_in(set),
-            MemberForm::Plane(set) => count_in(set),
-            MemberForm::Solid(set) => count_in(set),
+            MemberForm::Rank1(set) => count_in(set),
+            MemberForm::Rank2(set) => count_in(set),
+            MemberForm::Rank3(set) => count_in(set),
             MemberForm::Short(set) => count_in(set),
             MemberForm::Text(set) => count_in(set),
             MemberForm::Mixed(set) => count_in(set),
@@ -380,9 +380,9 @@ impl MemberSet {
         ensures { result ≡ slice_get self.now p }
     {
         match &self.form {
-            MemberForm::Line(set) => nth_in(set, p),
-            MemberForm::Plane(set) => nth_in(set, p),
-            MemberForm::Solid(set) => nth_in(set, p),
+            MemberForm::Rank1(set) => nth_in(set, p),
+            MemberForm::Rank2(set) => nth_in(set, p),
+            MemberForm::Rank3(set) => nth_in(set, p),
             MemberForm::Short(set) => nth_in(set, p),
             MemberForm::Text(set) => nth_in(set, p),
             MemberForm::Mixed(set) => nth_in(set, p),
@@ -394,9 +394,9 @@ impl MemberSet {
         ensures { IfOk result (λ v. v.items ≡ self.now) }
     {
         match &self.form {
-            MemberForm::Line(set) => list_in(alloc, set),
-            MemberForm::Plane(set) => list_in(alloc, set),
-            MemberForm::Solid(set) => list_in(alloc, set),
+            MemberForm::Rank1(set) => list_in(alloc, set),
+            MemberForm::Rank2(set) => list_in(alloc, set),
+            MemberForm::Rank3(set) => list_in(alloc, set),
             MemberForm::Short(set) => list_in(alloc, set),
             MemberForm::Text(set) => list_in(alloc, set),
             MemberForm::Mixed(set) => list_in(alloc, set),
@@ -408,9 +408,9 @@ impl MemberSet {
         ensures { result ≡ self.now }
     {
         let form = match &self.form {
-            MemberForm::Line(set) => WalkForm::Line(set.iter()),
-            MemberForm::Plane(set) => WalkForm::Plane(set.iter()),
-            MemberForm::Solid(set) => WalkForm::Solid(set.iter()),
+            MemberForm::Rank1(set) => WalkForm::Rank1(set.iter()),
+            MemberForm::Rank2(set) => WalkForm::Rank2(set.iter()),
+            MemberForm::Rank3(set) => WalkForm::Rank3(set.iter()),
             MemberForm::Short(set) => WalkForm::Short(set.iter()),
             MemberForm::Text(set) => WalkForm::Text(set.iter()),
             MemberForm::Mixed(set) => WalkForm::Mixed(set.iter()),

@@ -16,11 +16,11 @@ pub(crate) enum WalkForm<'a> {
     /// None.
     Nothing,
     /// Integers.
-    Line(Iter<'a, [i64; 1]>),
+    Rank1(Iter<'a, [i64; 1]>),
     /// Pairs.
-    Plane(Iter<'a, [i64; 2]>),
+    Rank2(Iter<'a, [i64; 2]>),
     /// Triples.
-    Solid(Iter<'a, [i64; 3]>),
+    Rank3(Iter<'a, [i64; 3]>),
     /// Texts of at most 23 bytes.
     Short(Iter<'a, ShortLabel>),
     /// Texts.
@@ -71,9 +71,9 @@ impl<'a> MemberWalk<'a> {
     {
         match &mut self.form {
             WalkForm::Nothing => None,
-            WalkForm::Line(keys) => next_in(keys),
-            WalkForm::Plane(keys) => next_in(keys),
-            WalkForm::Solid(keys) => next_in(keys),
+            WalkForm::Rank1(keys) => next_in(keys),
+            WalkForm::Rank2(keys) => next_in(keys),
+            WalkForm::Rank3(keys) => next_in(keys),
             WalkForm::Short(keys) => next_in(keys),
             WalkForm::Text(keys) => next_in(keys),
             WalkForm::Mixed(keys) => next_in(keys),

@@ -11,8 +11,8 @@ use crate::changes::indexed::IndexedChange;
 use crate::changes::list::Changes;
 use crate::changes::numbers::RectangleNumbers;
 use crate::changes::rectangle::RectangleChanges;
-use crate::changes::row::Row;
-use crate::changes::run::Form;
+use crate::changes::row::IndexedRow;
+use crate::changes::run::RunForm;
 use crate::values::rectangle::AnyRect;
 use std::alloc::Global;
 use std::marker::Model;
@@ -73,7 +73,7 @@ impl Delta {
     /// for, or absent. However many there are, they take the room of their ranges.
     pub fn put_rectangle(
         &mut self,
-        row: &Row,
+        row: &IndexedRow,
         ranges: &AnyRect,
         number: Option<i64>,
     ) -> Result<(), NoMemory>
@@ -84,14 +84,14 @@ impl Delta {
         // For the proof: each index of the ranges is listed once.
         let _once = ranges.size();
         let made = RectangleChanges::new(*row, *ranges, number);
-        self.changes.push_run(self.alloc, Form::Rectangle(made))
+        self.changes.push_run(self.alloc, RunForm::Rectangle(made))
     }
 
     /// Adds that the cells of a row at the indices of a rectangle, none of which is there yet, become what numbers stand for,
     /// the first at the first index and so on. They take the room of the numbers.
     pub fn put_numbers(
         &mut self,
-        row: &Row,
+        row: &IndexedRow,
         ranges: &AnyRect,
         numbers: Vec<i64>,
     ) -> Result<(), NoMemory>
@@ -102,7 +102,7 @@ impl Delta {
         // For the proof: each index of the ranges is listed once.
         let _once = ranges.size();
         let made = RectangleNumbers::new(*row, *ranges, numbers);
-        self.changes.push_run(self.alloc, Form::Numbers(made))
+        self.changes.push_run(self.alloc, RunForm::Numbers(made))
     }
 
     /// How many cells change; the cells `In`, which follow from the shapes, are not counted.

@@ -6,7 +6,7 @@ ghost use Rattle.wb_cells.specs.Runs.{indexed_change};
 use crate::cells::cell::Cell;
 use crate::cells::value::Value;
 use crate::changes::change::CellChange;
-use crate::changes::row::Row;
+use crate::changes::row::IndexedRow;
 use crate::values::index::AnyIndex;
 
 /// A change of a cell that has an index: to what a number stands for there, or to absent. An element is a number; where an
@@ -14,7 +14,7 @@ use crate::values::index::AnyIndex;
 #[derive(Clone, Copy)]
 pub struct IndexedChange {
     /// The cells of which it is one.
-    pub row: Row,
+    pub row: IndexedRow,
     /// Its index.
     pub index: AnyIndex,
     /// The number that it becomes, if it is to be there.
@@ -34,9 +34,9 @@ impl IndexedChange {
         ensures { IfSome result (λ e. indexed_change e ≡ record { cell = cell.now; value = value.now }) }
     {
         let (row, index) = match cell {
-            Cell::In(domain, index) => (Row::Inside(*domain), *index),
-            Cell::Member(domain, index) => (Row::Members(*domain), *index),
-            Cell::Element(array, index) => (Row::Elements(*array), *index),
+            Cell::In(domain, index) => (IndexedRow::Inside(*domain), *index),
+            Cell::Member(domain, index) => (IndexedRow::Members(*domain), *index),
+            Cell::Element(array, index) => (IndexedRow::Elements(*array), *index),
             Cell::Object(_)
             | Cell::Shape(_)
             | Cell::Mapping(_)

@@ -15,7 +15,7 @@ ghost use Rattle.wb_cells.specs.Runs.{labelled_at, labelled_changes, indexed_cha
 use crate::cells::cell::Cell;
 use crate::changes::change::CellChange;
 use crate::changes::indexed::IndexedChange;
-use crate::changes::row::Row;
+use crate::changes::row::IndexedRow;
 use crate::values::index::{AnyIndex, Index};
 use std::alloc::Global;
 use std::marker::Model;
@@ -35,7 +35,7 @@ pub(crate) struct LabelEntry {
 /// Changes of cells of one row, each by its label and a number, or none. Contracts see the row and the list of both.
 #[derive(Drop)]
 pub struct LabelChanges {
-    row: Row,
+    row: IndexedRow,
     bytes: Vec<u8>,
     entries: Vec<LabelEntry>,
 }
@@ -43,10 +43,10 @@ pub struct LabelChanges {
 impl Model for LabelChanges {
     ghost use Rattle.std.specs.Prelude.{ℕ, ℤ, List, Option};
     ghost use Rattle.std.specs.List.{All};
-    ghost use Rattle.wb_cells.specs.declared.changes.row.Row.{Row};
+    ghost use Rattle.wb_cells.specs.declared.changes.row.IndexedRow.{IndexedRow};
     ghost use Rattle.wb_cells.specs.Labelled.{entries_in, IsKept};
 
-    ghost Value = { Row × List (List ℕ × Option ℤ) };
+    ghost Value = { IndexedRow × List (List ℕ × Option ℤ) };
 
     ghost view = { λ a. (a.row, entries_in a.bytes.items a.entries.items) };
 
@@ -150,7 +150,7 @@ fn text_of(index: &AnyIndex) -> Option<Label>
 }
 
 // The label and the number by which a change is one of a row, if it is one.
-fn label_entry(row: &Row, change: &CellChange) -> Option<(Label, Option<i64>)>
+fn label_entry(row: &IndexedRow, change: &CellChange) -> Option<(Label, Option<i64>)>
     ensures { IfSome result (λ e. labelled_at row.now e ≡ change.now) }
 {
     let index = row.index_of(change.as_cell())?;
@@ -160,7 +160,7 @@ fn label_entry(row: &Row, change: &CellChange) -> Option<(Label, Option<i64>)>
 }
 
 // The label and the number by which a change of a cell that has an index is one of a row, if it is one.
-fn indexed_label(row: &Row, change: &IndexedChange) -> Option<(Label, Option<i64>)>
+fn indexed_label(row: &IndexedRow, change: &IndexedChange) -> Option<(Label, Option<i64>)>
     ensures { IfSome result (λ e. labelled_at row.now e ≡ indexed_change change.now) }
 {
     if !row.is_same(&change.row) {
@@ -172,7 +172,7 @@ fn indexed_label(row: &Row, change: &IndexedChange) -> Option<(Label, Option<i64
 
 impl LabelChanges {
     // No changes of cells of a row.
-    fn new(alloc: Global, row: Row) -> LabelChanges
+    fn new(alloc: Global, row: IndexedRow) -> LabelChanges
         ensures { result ≡ (row, []) }
     {
         LabelChanges {
@@ -202,7 +202,7 @@ impl LabelChanges {
     }
 
     /// The cells of which those that change are.
-    pub fn row(&self) -> &Row
+    pub fn row(&self) -> &IndexedRow
         ensures { result.now ≡ self.now.0 }
     {
         &self.row
@@ -256,16 +256,16 @@ impl LabelChanges {
         ensures { result ≡ count_of (labelled_changes self.now.0 self.now.1) }
     {
         match &self.row {
-            Row::Inside(_) => 0,
-            Row::Members(_) => self.len(),
-            Row::Elements(_) => self.len(),
+            IndexedRow::Inside(_) => 0,
+            IndexedRow::Members(_) => self.len(),
+            IndexedRow::Elements(_) => self.len(),
         }
     }
 
     /// One change, if it is one of such a row.
     pub(crate) fn of(
         alloc: Global,
-        row: &Row,
+        row: &IndexedRow,
         change: &CellChange,
     ) -> Result<Option<LabelChanges>, NoMemory>
         ensures { IfOk result (λ o. IfSome o (λ l. labelled_changes l.0 l.1 ≡ change.now ∷ [])) }

@@ -14,8 +14,8 @@ ghost use Rattle.wb_cells.specs.Runs.{HasPlace, cell_of, value_of, indexed_chang
 use crate::cells::cell::Cell;
 use crate::changes::change::{CellChange, counted_one};
 use crate::changes::indexed::IndexedChange;
-use crate::changes::row::Row;
-use crate::changes::run::{ChangeRun, Form};
+use crate::changes::row::IndexedRow;
+use crate::changes::run::{ChangeRun, RunForm};
 use std::alloc::Global;
 use std::marker::Model;
 use wb_range::NoMemory;
@@ -120,7 +120,7 @@ impl Changes {
     }
 
     /// Adds the changes of a run behind the others, or nothing where no memory is left.
-    pub fn push_run(&mut self, alloc: Global, form: Form) -> Result<(), NoMemory>
+    pub fn push_run(&mut self, alloc: Global, form: RunForm) -> Result<(), NoMemory>
         ensures ok { OnOk result (self.new ≡ self.old ++ changes_in form) }
         ensures err { OnErr result (self.new ≡ self.old) }
     {
@@ -204,14 +204,14 @@ fn add_indexed_to_last(runs: &mut Vec<ChangeRun>, change: &IndexedChange) -> Res
 }
 
 // How many of the changes of one cell of a row are counted.
-fn counted_of(row: &Row) -> usize
+fn counted_of(row: &IndexedRow) -> usize
     ensures value { (i : index_type) (n : Option ℤ) → result ≡ count_of (record { cell = cell_of row.now i; value = option_map (value_of row.now) n } ∷ []) }
     ensures few { result ≤ 1 }
 {
     match row {
-        Row::Inside(_) => 0,
-        Row::Members(_) => 1,
-        Row::Elements(_) => 1,
+        IndexedRow::Inside(_) => 0,
+        IndexedRow::Members(_) => 1,
+        IndexedRow::Elements(_) => 1,
     }
 }
 
@@ -311,7 +311,7 @@ fn put_form(
     alloc: Global,
     runs: &mut Option<Vec<ChangeRun>>,
     start: usize,
-    form: Form,
+    form: RunForm,
 ) -> Result<(), NoMemory>
     ensures ok { OnOk result (all_changes (runs_in runs.new) ≡ all_changes (runs_in runs.old) ++ changes_in form) }
     ensures err { OnErr result (all_changes (runs_in runs.new) ≡ all_changes (runs_in runs.old)) }
@@ -328,7 +328,7 @@ fn put_form(
     }
 }
 
-fn add_run(runs: &mut Vec<ChangeRun>, start: usize, form: Form) -> Result<(), NoMemory>
+fn add_run(runs: &mut Vec<ChangeRun>, start: usize, form: RunForm) -> Result<(), NoMemory>
     ensures ok { OnOk result (all_changes runs.new.items ≡ all_changes runs.old.items ++ changes_in form) }
     ensures err { OnErr result (runs.new.items ≡ runs.old.items) }
     ensures started { (n : ℕ) → AreStarted n runs.old.items → start ≡ n + length (all_changes runs.old.items) → AreStarted n runs.new.items }
@@ -350,7 +350,7 @@ fn put_run(
     ensures err { OnErr result (runs.new.items ≡ runs.old.items) }
     ensures started { (n : ℕ) → AreStarted n runs.old.items → start ≡ n + length (all_changes runs.old.items) → AreStarted n runs.new.items }
 {
-    let form = Form::of(alloc, change)?;
+    let form = RunForm::of(alloc, change)?;
     add_run(runs, start, form)
 }
 

@@ -10,21 +10,21 @@ ghost use Rattle.wb_cells.specs.Runs.{packed_changes, numbered_entries};
 use crate::cells::cell::Cell;
 use crate::changes::change::CellChange;
 use crate::changes::rectangle::index_in;
-use crate::changes::row::Row;
+use crate::changes::row::IndexedRow;
 use crate::values::rectangle::AnyRect;
 
 /// Changes of the cells of a row at the indices of a rectangle, to a number each: the first to the first index, and so on,
 /// as far as there are both.
 #[derive(Drop)]
 pub struct RectangleNumbers {
-    pub(crate) row: Row,
+    pub(crate) row: IndexedRow,
     pub(crate) ranges: AnyRect,
     pub(crate) numbers: Vec<i64>,
 }
 
 impl RectangleNumbers {
     /// The cells of the row at the indices of the ranges become what the numbers stand for, one after another.
-    pub fn new(row: Row, ranges: AnyRect, numbers: Vec<i64>) -> RectangleNumbers
+    pub fn new(row: IndexedRow, ranges: AnyRect, numbers: Vec<i64>) -> RectangleNumbers
         ensures row { result.row ≡ row }
         ensures ranges { result.ranges ≡ ranges }
         ensures numbers { result.numbers.items ≡ numbers.items }
@@ -37,7 +37,7 @@ impl RectangleNumbers {
     }
 
     /// The cells of which those that change are.
-    pub fn row(&self) -> &Row
+    pub fn row(&self) -> &IndexedRow
         ensures { result.now ≡ self.now.row }
     {
         &self.row
@@ -75,9 +75,9 @@ impl RectangleNumbers {
         ensures { result ≡ count_of (packed_changes self.now.row (numbered_entries self.now.ranges self.now.numbers.items)) }
     {
         match &self.row {
-            Row::Inside(_) => 0,
-            Row::Members(_) => self.len(),
-            Row::Elements(_) => self.len(),
+            IndexedRow::Inside(_) => 0,
+            IndexedRow::Members(_) => self.len(),
+            IndexedRow::Elements(_) => self.len(),
         }
     }
 

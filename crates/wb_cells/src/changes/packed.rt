@@ -11,7 +11,7 @@ ghost use Rattle.wb_cells.specs.declared.values.index.Index.TheVariants.{Point a
 use crate::cells::cell::Cell;
 use crate::changes::change::CellChange;
 use crate::changes::indexed::IndexedChange;
-use crate::changes::row::Row;
+use crate::changes::row::IndexedRow;
 use crate::values::index::{AnyIndex, Index, coordinates_of};
 use crate::values::point::Point;
 use std::alloc::Global;
@@ -20,12 +20,15 @@ use wb_range::NoMemory;
 /// Changes of cells of one row, each by its point and a number.
 #[derive(Drop)]
 pub struct Packed<const R: usize> {
-    pub(crate) row: Row,
+    pub(crate) row: IndexedRow,
     pub(crate) changes: Vec<([i64; R], Option<i64>)>,
 }
 
 // The point and the number by which a change is one of a row, if it is one.
-fn entry_of<const R: usize>(row: &Row, change: &CellChange) -> Option<([i64; R], Option<i64>)>
+fn entry_of<const R: usize>(
+    row: &IndexedRow,
+    change: &CellChange,
+) -> Option<([i64; R], Option<i64>)>
     requires { R ≤ 3 }
     ensures { IfSome result (λ e. change_at row.now e ≡ change.now) }
 {
@@ -44,7 +47,7 @@ fn index_at<const R: usize>(point: &[i64; R]) -> AnyIndex
 }
 
 // The change of a row that a point and a number stand for.
-fn change_at<const R: usize>(row: &Row, entry: &([i64; R], Option<i64>)) -> CellChange
+fn change_at<const R: usize>(row: &IndexedRow, entry: &([i64; R], Option<i64>)) -> CellChange
     requires { R ≤ 3 }
     ensures { result ≡ change_at row.now entry.now }
 {
@@ -52,7 +55,7 @@ fn change_at<const R: usize>(row: &Row, entry: &([i64; R], Option<i64>)) -> Cell
 }
 
 // The cell that a point stands for.
-fn cell_at<const R: usize>(row: &Row, entry: &([i64; R], Option<i64>)) -> Cell
+fn cell_at<const R: usize>(row: &IndexedRow, entry: &([i64; R], Option<i64>)) -> Cell
     requires { R ≤ 3 }
     ensures { result ≡ (change_at row.now entry.now).cell }
 {
@@ -61,7 +64,7 @@ fn cell_at<const R: usize>(row: &Row, entry: &([i64; R], Option<i64>)) -> Cell
 
 // The point and the number by which a change of a cell that has an index is one of a row, if it is one.
 fn indexed_entry<const R: usize>(
-    row: &Row,
+    row: &IndexedRow,
     change: &IndexedChange,
 ) -> Option<([i64; R], Option<i64>)>
     requires { R ≤ 3 }
@@ -76,7 +79,7 @@ fn indexed_entry<const R: usize>(
 
 impl<const R: usize> Packed<R> {
     /// Changes of cells of a row, each by its point and a number.
-    pub fn new(row: Row, changes: Vec<([i64; R], Option<i64>)>) -> Packed<R>
+    pub fn new(row: IndexedRow, changes: Vec<([i64; R], Option<i64>)>) -> Packed<R>
         ensures row { result.row ≡ row }
         ensures changes { result.changes.items ≡ changes.entry.items }
     {
@@ -84,7 +87,7 @@ impl<const R: usize> Packed<R> {
     }
 
     /// The cells of which those that change are.
-    pub fn row(&self) -> &Row
+    pub fn row(&self) -> &IndexedRow
         ensures { result.now ≡ self.now.row }
     {
         &self.row
@@ -103,16 +106,16 @@ impl<const R: usize> Packed<R> {
         ensures { result ≡ count_of (packed_changes self.now.row self.now.changes.items) }
     {
         match &self.row {
-            Row::Inside(_) => 0,
-            Row::Members(_) => self.changes.len(),
-            Row::Elements(_) => self.changes.len(),
+            IndexedRow::Inside(_) => 0,
+            IndexedRow::Members(_) => self.changes.len(),
+            IndexedRow::Elements(_) => self.changes.len(),
         }
     }
 
     /// One change, if it is one of such a row.
     pub(crate) fn of(
         alloc: Global,
-        row: &Row,
+        row: &IndexedRow,
         change: &CellChange,
     ) -> Result<Option<Packed<R>>, NoMemory>
         requires { R ≤ 3 }

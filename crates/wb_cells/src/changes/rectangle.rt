@@ -11,7 +11,7 @@ ghost use Rattle.std.specs.Prelude.{slice_get, Some};
 
 use crate::cells::cell::Cell;
 use crate::changes::change::CellChange;
-use crate::changes::row::Row;
+use crate::changes::row::IndexedRow;
 use crate::values::index::AnyIndex;
 use crate::values::rectangle::AnyRect;
 
@@ -19,14 +19,14 @@ use crate::values::rectangle::AnyRect;
 /// are, they take the room of their ranges.
 #[derive(Clone, Copy)]
 pub struct RectangleChanges {
-    pub(crate) row: Row,
+    pub(crate) row: IndexedRow,
     pub(crate) ranges: AnyRect,
     pub(crate) number: Option<i64>,
 }
 
 impl RectangleChanges {
     /// The cells of the row at every index of the ranges become what the number stands for, or absent.
-    pub fn new(row: Row, ranges: AnyRect, number: Option<i64>) -> RectangleChanges
+    pub fn new(row: IndexedRow, ranges: AnyRect, number: Option<i64>) -> RectangleChanges
         ensures { result ≡ record { row = row; ranges = ranges; number = number } }
     {
         RectangleChanges {
@@ -37,7 +37,7 @@ impl RectangleChanges {
     }
 
     /// The cells of which those that change are.
-    pub fn row(&self) -> &Row
+    pub fn row(&self) -> &IndexedRow
         ensures { result.now ≡ self.now.row }
     {
         &self.row
@@ -70,9 +70,9 @@ impl RectangleChanges {
         ensures { result ≡ count_of (packed_changes self.now.row (rectangle_entries self.now.ranges self.now.number)) }
     {
         match &self.row {
-            Row::Inside(_) => 0,
-            Row::Members(_) => self.len(),
-            Row::Elements(_) => self.len(),
+            IndexedRow::Inside(_) => 0,
+            IndexedRow::Members(_) => self.len(),
+            IndexedRow::Elements(_) => self.len(),
         }
     }
 

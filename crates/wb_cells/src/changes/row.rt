@@ -2,7 +2,7 @@
 
 ghost use Rattle.std.specs.Prelude.{◌≡◌, true, IfSome, option_map};
 ghost use Rattle.wb_cells.specs.declared.cells.value.Value.TheVariants.{Present};
-ghost use Rattle.wb_cells.specs.Runs.{cell_of, value_of};
+ghost use Rattle.wb_cells.specs.Runs.{cell_of, kind_of_row, name_of_row, value_of};
 
 use crate::cells::cell::Cell;
 use crate::cells::value::Value;
@@ -10,9 +10,20 @@ use crate::changes::change::CellChange;
 use crate::values::index::AnyIndex;
 use crate::values::name::Name;
 
+/// Which of the cells of an object that have an index each.
+#[derive(Clone, Copy)]
+pub enum RowKind {
+    /// `In(d, i)`.
+    Inside,
+    /// `Member(d, i)`.
+    Members,
+    /// `Element(a, i)`.
+    Elements,
+}
+
 /// The cells of one object that have an index each.
 #[derive(Clone, Copy)]
-pub enum Row {
+pub enum IndexedRow {
     /// `In(d, i)` for each index i.
     Inside(Name),
     /// `Member(d, i)` for each index i.
@@ -21,13 +32,13 @@ pub enum Row {
     Elements(Name),
 }
 
-impl Row {
+impl IndexedRow {
     /// The row of which the cell is one, if the cell has an index.
-    pub(crate) fn of(cell: &Cell) -> Option<Row> {
+    pub(crate) fn of(cell: &Cell) -> Option<IndexedRow> {
         match cell {
-            Cell::In(domain, _) => Some(Row::Inside(*domain)),
-            Cell::Member(domain, _) => Some(Row::Members(*domain)),
-            Cell::Element(array, _) => Some(Row::Elements(*array)),
+            Cell::In(domain, _) => Some(IndexedRow::Inside(*domain)),
+            Cell::Member(domain, _) => Some(IndexedRow::Members(*domain)),
+            Cell::Element(array, _) => Some(IndexedRow::Elements(*array)),
             Cell::Object(_)
             | Cell::Shape(_)
             | Cell::Mapping(_)
@@ -36,25 +47,47 @@ impl Row {
         }
     }
 
-    // Whether the rows are one. It may miss that, but not the other way round.
-    pub(crate) fn is_same(&self, other: &Row) -> bool
+    /// The name of the object.
+    pub fn name(&self) -> Name
+        ensures { result ≡ name_of_row self.now }
+    {
+        match self {
+            IndexedRow::Inside(name) => *name,
+            IndexedRow::Members(name) => *name,
+            IndexedRow::Elements(name) => *name,
+        }
+    }
+
+    /// Which of its cells they are.
+    pub fn kind(&self) -> RowKind
+        ensures { result ≡ kind_of_row self.now }
+    {
+        match self {
+            IndexedRow::Inside(_) => RowKind::Inside,
+            IndexedRow::Members(_) => RowKind::Members,
+            IndexedRow::Elements(_) => RowKind::Elements,
+        }
+    }
+
+    /// Whether the rows are one. It may miss that, but not the other way round.
+    pub fn is_same(&self, other: &IndexedRow) -> bool
         ensures { result ≡ true → self.now ≡ other.now }
     {
         match self {
-            Row::Inside(name) => match other {
-                Row::Inside(by) => name.is_same(by),
-                Row::Members(_) => false,
-                Row::Elements(_) => false,
+            IndexedRow::Inside(name) => match other {
+                IndexedRow::Inside(by) => name.is_same(by),
+                IndexedRow::Members(_) => false,
+                IndexedRow::Elements(_) => false,
             },
-            Row::Members(name) => match other {
-                Row::Inside(_) => false,
-                Row::Members(by) => name.is_same(by),
-                Row::Elements(_) => false,
+            IndexedRow::Members(name) => match other {
+                IndexedRow::Inside(_) => false,
+                IndexedRow::Members(by) => name.is_same(by),
+                IndexedRow::Elements(_) => false,
             },
-            Row::Elements(name) => match other {
-                Row::Inside(_) => false,
-                Row::Members(_) => false,
-                Row::Elements(by) => name.is_same(by),
+            IndexedRow::Elements(name) => match other {
+                IndexedRow::Inside(_) => false,
+                IndexedRow::Members(_) => false,
+                IndexedRow::Elements(by) => name.is_same(by),
             },
         }
     }
@@ -65,33 +98,21 @@ impl Row {
     {
         match value {
             None => Some(None),
-            Some(Value::Number(number)) => match self {
-                Row::Inside(_) | Row::Members(_) => None,
-                Row::Elements(_) => Some(Some(*number)),
-            },
-            Some(Value::Present) => match self {
-                Row::Inside(_) => Some(Some(0)),
-                Row::Members(_) => Some(Some(0)),
-                Row::Elements(_) => None,
-            },
-            Some(
-                Value::Domain(_)
-                | Value::Array(_, _)
-                | Value::Ranges(_)
-                | Value::Mapping(_)
-                | Value::Bound(_),
-            ) => None,
+            Some(value) => {
+                let number = self.number_for(value)?;
+                Some(Some(number))
+            }
         }
     }
 
     /// The cell of an index.
-    pub(crate) fn cell(&self, index: AnyIndex) -> Cell
+    pub fn cell(&self, index: AnyIndex) -> Cell
         ensures { result ≡ cell_of self.now index }
     {
         match self {
-            Row::Inside(domain) => Cell::In(*domain, index),
-            Row::Members(domain) => Cell::Member(*domain, index),
-            Row::Elements(array) => Cell::Element(*array, index),
+            IndexedRow::Inside(domain) => Cell::In(*domain, index),
+            IndexedRow::Members(domain) => Cell::Member(*domain, index),
+            IndexedRow::Elements(array) => Cell::Element(*array, index),
         }
     }
 
@@ -100,15 +121,15 @@ impl Row {
         ensures { IfSome result (λ i. cell.now ≡ cell_of self.now i) }
     {
         match self {
-            Row::Inside(domain) => match cell {
+            IndexedRow::Inside(domain) => match cell {
                 Cell::In(name, index) => under(domain, name, index),
                 _ => None,
             },
-            Row::Members(domain) => match cell {
+            IndexedRow::Members(domain) => match cell {
                 Cell::Member(name, index) => under(domain, name, index),
                 _ => None,
             },
-            Row::Elements(array) => match cell {
+            IndexedRow::Elements(array) => match cell {
                 Cell::Element(name, index) => under(array, name, index),
                 _ => None,
             },
@@ -120,9 +141,12 @@ impl Row {
         ensures { result ≡ record { cell = cell_of self.now index; value = option_map (value_of self.now) number } }
     {
         match self {
-            Row::Elements(array) => CellChange::of_number(Cell::Element(*array, index), number),
-            Row::Inside(domain) => present(Cell::In(*domain, index), number),
-            Row::Members(domain) => present(Cell::Member(*domain, index), number),
+            IndexedRow::Elements(array) => CellChange::of_number(
+                Cell::Element(*array, index),
+                number,
+            ),
+            IndexedRow::Inside(domain) => present(Cell::In(*domain, index), number),
+            IndexedRow::Members(domain) => present(Cell::Member(*domain, index), number),
         }
     }
 
@@ -132,22 +156,32 @@ impl Row {
     {
         match change.as_value() {
             None => Some(None),
-            Some(Value::Number(number)) => match self {
-                Row::Inside(_) | Row::Members(_) => None,
-                Row::Elements(_) => Some(Some(*number)),
+            Some(value) => {
+                let number = self.number_for(value)?;
+                Some(Some(number))
+            }
+        }
+    }
+
+    // A number by which a value stands in one of these cells, if it may stand there.
+    fn number_for(&self, value: &Value) -> Option<i64>
+        ensures { IfSome result (λ n. value_of self.now n ≡ value.now) }
+    {
+        match value {
+            Value::Number(number) => match self {
+                IndexedRow::Inside(_) | IndexedRow::Members(_) => None,
+                IndexedRow::Elements(_) => Some(*number),
             },
-            Some(Value::Present) => match self {
-                Row::Inside(_) => Some(Some(0)),
-                Row::Members(_) => Some(Some(0)),
-                Row::Elements(_) => None,
+            Value::Present => match self {
+                IndexedRow::Inside(_) => Some(0),
+                IndexedRow::Members(_) => Some(0),
+                IndexedRow::Elements(_) => None,
             },
-            Some(
-                Value::Domain(_)
-                | Value::Array(_, _)
-                | Value::Ranges(_)
-                | Value::Mapping(_)
-                | Value::Bound(_),
-            ) => None,
+            Value::Domain(_)
+            | Value::Array(_, _)
+            | Value::Ranges(_)
+            | Value::Mapping(_)
+            | Value::Bound(_) => None,
         }
     }
 }

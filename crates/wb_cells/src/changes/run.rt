@@ -15,21 +15,21 @@ use crate::changes::labels::LabelChanges;
 use crate::changes::numbers::RectangleNumbers;
 use crate::changes::packed::Packed;
 use crate::changes::rectangle::RectangleChanges;
-use crate::changes::row::Row;
+use crate::changes::row::IndexedRow;
 use std::alloc::Global;
 use wb_range::NoMemory;
 
 /// How the changes of a run are kept.
 #[derive(Drop)]
-pub enum Form {
+pub enum RunForm {
     /// One change.
     One(CellChange),
     /// Changes at integers.
-    Line(Packed<1>),
+    Rank1(Packed<1>),
     /// Changes at pairs.
-    Plane(Packed<2>),
+    Rank2(Packed<2>),
     /// Changes at triples.
-    Solid(Packed<3>),
+    Rank3(Packed<3>),
     /// Changes at labels.
     Labels(LabelChanges),
     /// The same number, or none, at each index of a rectangle.
@@ -42,30 +42,30 @@ pub enum Form {
 #[derive(Drop)]
 pub struct ChangeRun {
     pub(crate) start: usize,
-    pub(crate) form: Form,
+    pub(crate) form: RunForm,
 }
 
-impl Form {
+impl RunForm {
     // One change.
-    pub(crate) fn of(alloc: Global, change: &CellChange) -> Result<Form, NoMemory>
+    pub(crate) fn of(alloc: Global, change: &CellChange) -> Result<RunForm, NoMemory>
         ensures { IfOk result (λ f. changes_in f ≡ change.now ∷ []) }
     {
-        let Some(row) = Row::of(change.as_cell()) else {
-            return Ok(Form::One(*change));
+        let Some(row) = IndexedRow::of(change.as_cell()) else {
+            return Ok(RunForm::One(*change));
         };
         if let Some(line) = Packed::of(alloc, &row, change)? {
-            return Ok(Form::Line(line));
+            return Ok(RunForm::Rank1(line));
         }
         if let Some(plane) = Packed::of(alloc, &row, change)? {
-            return Ok(Form::Plane(plane));
+            return Ok(RunForm::Rank2(plane));
         }
         if let Some(solid) = Packed::of(alloc, &row, change)? {
-            return Ok(Form::Solid(solid));
+            return Ok(RunForm::Rank3(solid));
         }
         if let Some(labels) = LabelChanges::of(alloc, &row, change)? {
-            return Ok(Form::Labels(labels));
+            return Ok(RunForm::Labels(labels));
         }
-        Ok(Form::One(*change))
+        Ok(RunForm::One(*change))
     }
 
     // Adds a change behind the others, if it may be packed with them.
@@ -75,18 +75,18 @@ impl Form {
         ensures err { OnErr result (changes_in self.new ≡ changes_in self.old) }
     {
         match self {
-            Form::One(_) => Ok(false),
-            Form::Line(line) => line.add(change),
-            Form::Plane(plane) => plane.add(change),
-            Form::Solid(solid) => solid.add(change),
-            Form::Labels(labels) => labels.add(change),
-            Form::Rectangle(_) => Ok(false),
-            Form::Numbers(_) => Ok(false),
+            RunForm::One(_) => Ok(false),
+            RunForm::Rank1(line) => line.add(change),
+            RunForm::Rank2(plane) => plane.add(change),
+            RunForm::Rank3(solid) => solid.add(change),
+            RunForm::Labels(labels) => labels.add(change),
+            RunForm::Rectangle(_) => Ok(false),
+            RunForm::Numbers(_) => Ok(false),
         }
     }
 }
 
-impl Form {
+impl RunForm {
     // Adds a change of a cell that has an index behind the others, if it may be packed with them.
     pub(crate) fn add_indexed(&mut self, change: &IndexedChange) -> Result<bool, NoMemory>
         ensures added { result ≡ Ok true → changes_in self.new ≡ changes_in self.old ++ indexed_change change.now ∷ [] }
@@ -94,30 +94,30 @@ impl Form {
         ensures err { OnErr result (changes_in self.new ≡ changes_in self.old) }
     {
         match self {
-            Form::One(_) => Ok(false),
-            Form::Line(line) => line.add_indexed(change),
-            Form::Plane(plane) => plane.add_indexed(change),
-            Form::Solid(solid) => solid.add_indexed(change),
-            Form::Labels(labels) => labels.add_indexed(change),
-            Form::Rectangle(_) => Ok(false),
-            Form::Numbers(_) => Ok(false),
+            RunForm::One(_) => Ok(false),
+            RunForm::Rank1(line) => line.add_indexed(change),
+            RunForm::Rank2(plane) => plane.add_indexed(change),
+            RunForm::Rank3(solid) => solid.add_indexed(change),
+            RunForm::Labels(labels) => labels.add_indexed(change),
+            RunForm::Rectangle(_) => Ok(false),
+            RunForm::Numbers(_) => Ok(false),
         }
     }
 }
 
-impl Form {
+impl RunForm {
     /// How many changes there are.
     pub fn len(&self) -> usize
         ensures { result ≡ length (changes_in self.now) }
     {
         match self {
-            Form::One(_) => 1,
-            Form::Line(line) => line.len(),
-            Form::Plane(plane) => plane.len(),
-            Form::Solid(solid) => solid.len(),
-            Form::Labels(labels) => labels.len(),
-            Form::Rectangle(rectangle) => rectangle.len(),
-            Form::Numbers(rectangle) => rectangle.len(),
+            RunForm::One(_) => 1,
+            RunForm::Rank1(line) => line.len(),
+            RunForm::Rank2(plane) => plane.len(),
+            RunForm::Rank3(solid) => solid.len(),
+            RunForm::Labels(labels) => labels.len(),
+            RunForm::Rectangle(rectangle) => rectangle.len(),
+            RunForm::Numbers(rectangle) => rectangle.len(),
         }
     }
 
@@ -126,20 +126,20 @@ impl Form {
         ensures { result ≡ count_of (changes_in self.now) }
     {
         match self {
-            Form::One(change) => counted_one(change),
-            Form::Line(line) => line.count(),
-            Form::Plane(plane) => plane.count(),
-            Form::Solid(solid) => solid.count(),
-            Form::Labels(labels) => labels.count(),
-            Form::Rectangle(rectangle) => rectangle.count(),
-            Form::Numbers(rectangle) => rectangle.count(),
+            RunForm::One(change) => counted_one(change),
+            RunForm::Rank1(line) => line.count(),
+            RunForm::Rank2(plane) => plane.count(),
+            RunForm::Rank3(solid) => solid.count(),
+            RunForm::Labels(labels) => labels.count(),
+            RunForm::Rectangle(rectangle) => rectangle.count(),
+            RunForm::Numbers(rectangle) => rectangle.count(),
         }
     }
 }
 
 impl ChangeRun {
     /// How the changes are kept.
-    pub fn form(&self) -> &Form
+    pub fn form(&self) -> &RunForm
         ensures { result.now ≡ self.now.form }
     {
         &self.form
@@ -158,13 +158,13 @@ impl ChangeRun {
         ensures { result ≡ get_or (changes_in self.now.form) at result }
     {
         match &self.form {
-            Form::One(change) => *change,
-            Form::Line(line) => line.change(at),
-            Form::Plane(plane) => plane.change(at),
-            Form::Solid(solid) => solid.change(at),
-            Form::Labels(labels) => labels.change(at),
-            Form::Rectangle(rectangle) => rectangle.change(at),
-            Form::Numbers(rectangle) => rectangle.change(at),
+            RunForm::One(change) => *change,
+            RunForm::Rank1(line) => line.change(at),
+            RunForm::Rank2(plane) => plane.change(at),
+            RunForm::Rank3(solid) => solid.change(at),
+            RunForm::Labels(labels) => labels.change(at),
+            RunForm::Rectangle(rectangle) => rectangle.change(at),
+            RunForm::Numbers(rectangle) => rectangle.change(at),
         }
     }
 
@@ -174,13 +174,13 @@ impl ChangeRun {
         ensures { (d : Change cell_type value_type) → result ≡ (get_or (changes_in self.now.form) at d).cell }
     {
         match &self.form {
-            Form::One(change) => change.cell(),
-            Form::Line(line) => line.cell(at),
-            Form::Plane(plane) => plane.cell(at),
-            Form::Solid(solid) => solid.cell(at),
-            Form::Labels(labels) => labels.cell(at),
-            Form::Rectangle(rectangle) => rectangle.cell(at),
-            Form::Numbers(rectangle) => rectangle.cell(at),
+            RunForm::One(change) => change.cell(),
+            RunForm::Rank1(line) => line.cell(at),
+            RunForm::Rank2(plane) => plane.cell(at),
+            RunForm::Rank3(solid) => solid.cell(at),
+            RunForm::Labels(labels) => labels.cell(at),
+            RunForm::Rectangle(rectangle) => rectangle.cell(at),
+            RunForm::Numbers(rectangle) => rectangle.cell(at),
         }
     }
 

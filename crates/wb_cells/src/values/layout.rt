@@ -16,15 +16,15 @@ use wb_range::Mapping;
 
 /// A mapping by its rank.
 #[derive(Clone, Copy)]
-pub enum Laid {
+pub enum LayoutByRank {
     /// All on one locale, at any rank.
     Whole,
     /// Of rank 1.
-    Line(Layout<1>),
+    Rank1(Layout<1>),
     /// Of rank 2.
-    Plane(Layout<2>),
+    Rank2(Layout<2>),
     /// Of rank 3.
-    Solid(Layout<3>),
+    Rank3(Layout<3>),
 }
 
 /// The mapping of a rectangular domain, of any rank that the workbook has: 1, 2 or 3. The one that keeps all on one
@@ -33,7 +33,7 @@ pub enum Laid {
 /// Contracts see it as its `LayoutMap`.
 #[derive(Clone, Copy)]
 pub struct AnyLayout {
-    laid: Laid,
+    laid: LayoutByRank,
 }
 
 impl Model for AnyLayout {
@@ -56,7 +56,9 @@ impl AnyLayout {
     pub fn whole() -> AnyLayout
         ensures { result ≡ whole }
     {
-        AnyLayout { laid: Laid::Whole }
+        AnyLayout {
+            laid: LayoutByRank::Whole,
+        }
     }
 
     /// A mapping of rank 1.
@@ -67,7 +69,7 @@ impl AnyLayout {
             return AnyLayout::whole();
         }
         AnyLayout {
-            laid: Laid::Line(layout),
+            laid: LayoutByRank::Rank1(layout),
         }
     }
 
@@ -79,7 +81,7 @@ impl AnyLayout {
             return AnyLayout::whole();
         }
         AnyLayout {
-            laid: Laid::Plane(layout),
+            laid: LayoutByRank::Rank2(layout),
         }
     }
 
@@ -91,7 +93,7 @@ impl AnyLayout {
             return AnyLayout::whole();
         }
         AnyLayout {
-            laid: Laid::Solid(layout),
+            laid: LayoutByRank::Rank3(layout),
         }
     }
 
@@ -101,15 +103,15 @@ impl AnyLayout {
         ensures kept { IsLayout self.now }
     {
         match &self.laid {
-            Laid::Whole => true,
-            Laid::Line(_) => rank == 1,
-            Laid::Plane(_) => rank == 2,
-            Laid::Solid(_) => rank == 3,
+            LayoutByRank::Whole => true,
+            LayoutByRank::Rank1(_) => rank == 1,
+            LayoutByRank::Rank2(_) => rank == 2,
+            LayoutByRank::Rank3(_) => rank == 3,
         }
     }
 
     /// The mapping by its rank.
-    pub fn laid(&self) -> Laid
+    pub fn laid(&self) -> LayoutByRank
         ensures { map_of result ≡ self.now }
     {
         self.laid
@@ -122,10 +124,10 @@ impl AnyLayout {
         match index.index() {
             Index::Text(_) => None,
             Index::Point(point) => match &self.laid {
-                Laid::Whole => Some(0),
-                Laid::Line(layout) => locale_on(layout, &point),
-                Laid::Plane(layout) => locale_on(layout, &point),
-                Laid::Solid(layout) => locale_on(layout, &point),
+                LayoutByRank::Whole => Some(0),
+                LayoutByRank::Rank1(layout) => locale_on(layout, &point),
+                LayoutByRank::Rank2(layout) => locale_on(layout, &point),
+                LayoutByRank::Rank3(layout) => locale_on(layout, &point),
             },
         }
     }
@@ -136,10 +138,10 @@ impl AnyLayout {
     {
         let laid = other.laid();
         match self.laid() {
-            Laid::Whole => is_laid_whole(&laid),
-            Laid::Line(layout) => is_laid_line(&layout, &laid),
-            Laid::Plane(layout) => is_laid_plane(&layout, &laid),
-            Laid::Solid(layout) => is_laid_solid(&layout, &laid),
+            LayoutByRank::Whole => is_laid_whole(&laid),
+            LayoutByRank::Rank1(layout) => is_laid_line(&layout, &laid),
+            LayoutByRank::Rank2(layout) => is_laid_plane(&layout, &laid),
+            LayoutByRank::Rank3(layout) => is_laid_solid(&layout, &laid),
         }
     }
 }

@@ -1,4 +1,4 @@
-ghost use Rattle.std.specs.Prelude.{◌≡◌, ◌≢◌, ◌↔◌, ◌<◌, ◌≤◌, [], ◌∷◌, true, false, length, slice_get, IfOk, OnOk, SomeIff};
+ghost use Rattle.std.specs.Prelude.{◌≡◌, ◌≢◌, ◌↔◌, ◌<◌, ◌≤◌, true, false, length, slice_get, IfOk, OnOk, SomeIff};
 ghost use Rattle.std.specs.Bool.{Decides};
 ghost use Rattle.wb_range.specs.Domain.{IsListedOnce};
 ghost use Rattle.wb_rect.specs.Offsets.{each_shifted, translated, expanded};
@@ -21,11 +21,11 @@ use wb_rect::{Rect, RectErr};
 #[derive(Clone, Copy)]
 pub enum Ranked {
     /// One range.
-    Line(Rect<1>),
+    Rank1(Rect<1>),
     /// Two ranges.
-    Plane(Rect<2>),
+    Rank2(Rect<2>),
     /// Three ranges.
-    Solid(Rect<3>),
+    Rank3(Rect<3>),
 }
 
 /// The value of a rectangular domain, of any rank that the workbook has: 1, 2 or 3.
@@ -52,16 +52,6 @@ impl Model for AnyRect {
 }
 
 impl AnyRect {
-    /// The one-dimensional domain of the range's indices; `TooLarge` above 65,536 of them.
-    pub fn from_range(range: Range) -> Result<AnyRect, RectErr>
-        ensures ok { IfOk result (λ r. r ≡ range ∷ []) }
-        ensures too_large { (result ≡ Err RectErr.TooLarge) ↔ (65536 < length (product (range ∷ []))) }
-        ensures never { result ≢ Err RectErr.Strided }
-    {
-        let rect = Rect::new([range])?;
-        Ok(AnyRect::line(rect))
-    }
-
     /// The domain of 1 to 3 dimensions that is the product of the ranges; `TooLarge` where it has more than 65,536
     /// indices (Chapel Language Specification, Domains: rectangular domains).
     pub fn from_ranges(ranges: &[Range]) -> Result<AnyRect, RectErr>
@@ -86,7 +76,7 @@ impl AnyRect {
         // For the proof: the ranges are those of a rectangle of rank 1.
         let _kept = rect.rank();
         AnyRect {
-            ranked: Ranked::Line(rect),
+            ranked: Ranked::Rank1(rect),
         }
     }
 
@@ -97,7 +87,7 @@ impl AnyRect {
         // For the proof: the ranges are those of a rectangle of rank 2.
         let _kept = rect.rank();
         AnyRect {
-            ranked: Ranked::Plane(rect),
+            ranked: Ranked::Rank2(rect),
         }
     }
 
@@ -108,7 +98,7 @@ impl AnyRect {
         // For the proof: the ranges are those of a rectangle of rank 3.
         let _kept = rect.rank();
         AnyRect {
-            ranked: Ranked::Solid(rect),
+            ranked: Ranked::Rank3(rect),
         }
     }
 
@@ -125,9 +115,9 @@ impl AnyRect {
         ensures kept { IsRectangle (length self.now) self.now }
     {
         match &self.ranked {
-            Ranked::Line(_) => 1,
-            Ranked::Plane(_) => 2,
-            Ranked::Solid(_) => 3,
+            Ranked::Rank1(_) => 1,
+            Ranked::Rank2(_) => 2,
+            Ranked::Rank3(_) => 3,
         }
     }
 
@@ -137,9 +127,9 @@ impl AnyRect {
         ensures once { IsListedOnce (indices self.now) }
     {
         match &self.ranked {
-            Ranked::Line(rect) => size_in(rect),
-            Ranked::Plane(rect) => size_in(rect),
-            Ranked::Solid(rect) => size_in(rect),
+            Ranked::Rank1(rect) => size_in(rect),
+            Ranked::Rank2(rect) => size_in(rect),
+            Ranked::Rank3(rect) => size_in(rect),
         }
     }
 
@@ -148,9 +138,9 @@ impl AnyRect {
         ensures { result ≡ slice_get (indices self.now) p }
     {
         match &self.ranked {
-            Ranked::Line(rect) => nth_in(rect, p),
-            Ranked::Plane(rect) => nth_in(rect, p),
-            Ranked::Solid(rect) => nth_in(rect, p),
+            Ranked::Rank1(rect) => nth_in(rect, p),
+            Ranked::Rank2(rect) => nth_in(rect, p),
+            Ranked::Rank3(rect) => nth_in(rect, p),
         }
     }
 
@@ -161,9 +151,9 @@ impl AnyRect {
         match index.index() {
             Index::Text(_) => false,
             Index::Point(point) => match &self.ranked {
-                Ranked::Line(rect) => contains_in(rect, &point),
-                Ranked::Plane(rect) => contains_in(rect, &point),
-                Ranked::Solid(rect) => contains_in(rect, &point),
+                Ranked::Rank1(rect) => contains_in(rect, &point),
+                Ranked::Rank2(rect) => contains_in(rect, &point),
+                Ranked::Rank3(rect) => contains_in(rect, &point),
             },
         }
     }
@@ -174,17 +164,17 @@ impl AnyRect {
         ensures { SomeIff result (length self.now ≡ length other.now) (sliced self.now other.now) }
     {
         match &self.ranked {
-            Ranked::Line(rect) => match &other.ranked {
-                Ranked::Line(by) => Some(AnyRect::line(rect.slice(by))),
-                Ranked::Plane(_) | Ranked::Solid(_) => None,
+            Ranked::Rank1(rect) => match &other.ranked {
+                Ranked::Rank1(by) => Some(AnyRect::line(rect.slice(by))),
+                Ranked::Rank2(_) | Ranked::Rank3(_) => None,
             },
-            Ranked::Plane(rect) => match &other.ranked {
-                Ranked::Plane(by) => Some(AnyRect::plane(rect.slice(by))),
-                Ranked::Line(_) | Ranked::Solid(_) => None,
+            Ranked::Rank2(rect) => match &other.ranked {
+                Ranked::Rank2(by) => Some(AnyRect::plane(rect.slice(by))),
+                Ranked::Rank1(_) | Ranked::Rank3(_) => None,
             },
-            Ranked::Solid(rect) => match &other.ranked {
-                Ranked::Solid(by) => Some(AnyRect::solid(rect.slice(by))),
-                Ranked::Line(_) | Ranked::Plane(_) => None,
+            Ranked::Rank3(rect) => match &other.ranked {
+                Ranked::Rank3(by) => Some(AnyRect::solid(rect.slice(by))),
+                Ranked::Rank1(_) | Ranked::Rank2(_) => None,
             },
         }
     }
@@ -228,9 +218,9 @@ impl AnyRect {
     {
         let ranked = other.ranked();
         match self.ranked() {
-            Ranked::Line(rect) => is_line(&rect, &ranked),
-            Ranked::Plane(rect) => is_plane(&rect, &ranked),
-            Ranked::Solid(rect) => is_solid(&rect, &ranked),
+            Ranked::Rank1(rect) => is_line(&rect, &ranked),
+            Ranked::Rank2(rect) => is_plane(&rect, &ranked),
+            Ranked::Rank3(rect) => is_solid(&rect, &ranked),
         }
     }
 
@@ -244,9 +234,9 @@ impl AnyRect {
             ((has_unit_strides self.now ≡ true) × (can_shift outward offsets.now self.now ≡ false)) }
     {
         match &self.ranked {
-            Ranked::Line(rect) => Ok(AnyRect::line(shift_in(rect, offsets, outward)?)),
-            Ranked::Plane(rect) => Ok(AnyRect::plane(shift_in(rect, offsets, outward)?)),
-            Ranked::Solid(rect) => Ok(AnyRect::solid(shift_in(rect, offsets, outward)?)),
+            Ranked::Rank1(rect) => Ok(AnyRect::line(shift_in(rect, offsets, outward)?)),
+            Ranked::Rank2(rect) => Ok(AnyRect::plane(shift_in(rect, offsets, outward)?)),
+            Ranked::Rank3(rect) => Ok(AnyRect::solid(shift_in(rect, offsets, outward)?)),
         }
     }
 }

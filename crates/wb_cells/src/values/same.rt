@@ -6,7 +6,7 @@ ghost use Rattle.wb_dist.specs.Maps.{whole};
 ghost use Rattle.wb_cells.specs.Layouts.{map_of};
 ghost use Rattle.wb_cells.specs.Ranks.{ranges_of};
 
-use crate::values::layout::Laid;
+use crate::values::layout::LayoutByRank;
 use crate::values::rectangle::Ranked;
 use wb_dist::{Distribution, Layout};
 use wb_range::Mapping;
@@ -19,13 +19,13 @@ pub(crate) fn is_line(one: &Rect<1>, two: &Ranked) -> bool
     // For the proof: it has one range.
     let _one = one.rank();
     match two {
-        Ranked::Line(rect) => one == rect,
-        Ranked::Plane(rect) => {
+        Ranked::Rank1(rect) => one == rect,
+        Ranked::Rank2(rect) => {
             // For the proof: it has two ranges.
             let _two = rect.rank();
             false
         }
-        Ranked::Solid(rect) => {
+        Ranked::Rank3(rect) => {
             // For the proof: it has three ranges.
             let _two = rect.rank();
             false
@@ -40,13 +40,13 @@ pub(crate) fn is_plane(one: &Rect<2>, two: &Ranked) -> bool
     // For the proof: it has two ranges.
     let _one = one.rank();
     match two {
-        Ranked::Line(rect) => {
+        Ranked::Rank1(rect) => {
             // For the proof: it has one range.
             let _two = rect.rank();
             false
         }
-        Ranked::Plane(rect) => one == rect,
-        Ranked::Solid(rect) => {
+        Ranked::Rank2(rect) => one == rect,
+        Ranked::Rank3(rect) => {
             // For the proof: it has three ranges.
             let _two = rect.rank();
             false
@@ -61,17 +61,17 @@ pub(crate) fn is_solid(one: &Rect<3>, two: &Ranked) -> bool
     // For the proof: it has three ranges.
     let _one = one.rank();
     match two {
-        Ranked::Line(rect) => {
+        Ranked::Rank1(rect) => {
             // For the proof: it has one range.
             let _two = rect.rank();
             false
         }
-        Ranked::Plane(rect) => {
+        Ranked::Rank2(rect) => {
             // For the proof: it has two ranges.
             let _two = rect.rank();
             false
         }
-        Ranked::Solid(rect) => one == rect,
+        Ranked::Rank3(rect) => one == rect,
     }
 }
 
@@ -103,48 +103,48 @@ fn are_whole<const R: usize, const S: usize>(one: &Layout<R>, two: &Layout<S>) -
 }
 
 // Whether a mapping for rank 1 is the other one, which may be for any rank.
-pub(crate) fn is_laid_line(one: &Layout<1>, two: &Laid) -> bool
+pub(crate) fn is_laid_line(one: &Layout<1>, two: &LayoutByRank) -> bool
     ensures { Decides result (one.now ≡ map_of two.now) }
 {
     match two {
-        Laid::Whole => is_on_one(one),
-        Laid::Line(layout) => one == layout,
-        Laid::Plane(layout) => are_whole(one, layout),
-        Laid::Solid(layout) => are_whole(one, layout),
+        LayoutByRank::Whole => is_on_one(one),
+        LayoutByRank::Rank1(layout) => one == layout,
+        LayoutByRank::Rank2(layout) => are_whole(one, layout),
+        LayoutByRank::Rank3(layout) => are_whole(one, layout),
     }
 }
 
 // Whether a mapping for rank 2 is the other one, which may be for any rank.
-pub(crate) fn is_laid_plane(one: &Layout<2>, two: &Laid) -> bool
+pub(crate) fn is_laid_plane(one: &Layout<2>, two: &LayoutByRank) -> bool
     ensures { Decides result (one.now ≡ map_of two.now) }
 {
     match two {
-        Laid::Whole => is_on_one(one),
-        Laid::Line(layout) => are_whole(one, layout),
-        Laid::Plane(layout) => one == layout,
-        Laid::Solid(layout) => are_whole(one, layout),
+        LayoutByRank::Whole => is_on_one(one),
+        LayoutByRank::Rank1(layout) => are_whole(one, layout),
+        LayoutByRank::Rank2(layout) => one == layout,
+        LayoutByRank::Rank3(layout) => are_whole(one, layout),
     }
 }
 
 // Whether a mapping for rank 3 is the other one, which may be for any rank.
-pub(crate) fn is_laid_solid(one: &Layout<3>, two: &Laid) -> bool
+pub(crate) fn is_laid_solid(one: &Layout<3>, two: &LayoutByRank) -> bool
     ensures { Decides result (one.now ≡ map_of two.now) }
 {
     match two {
-        Laid::Whole => is_on_one(one),
-        Laid::Line(layout) => are_whole(one, layout),
-        Laid::Plane(layout) => are_whole(one, layout),
-        Laid::Solid(layout) => one == layout,
+        LayoutByRank::Whole => is_on_one(one),
+        LayoutByRank::Rank1(layout) => are_whole(one, layout),
+        LayoutByRank::Rank2(layout) => are_whole(one, layout),
+        LayoutByRank::Rank3(layout) => one == layout,
     }
 }
 
-pub(crate) fn is_laid_whole(two: &Laid) -> bool
+pub(crate) fn is_laid_whole(two: &LayoutByRank) -> bool
     ensures { Decides result (whole ≡ map_of two.now) }
 {
     match two {
-        Laid::Whole => true,
-        Laid::Line(layout) => is_on_one(layout),
-        Laid::Plane(layout) => is_on_one(layout),
-        Laid::Solid(layout) => is_on_one(layout),
+        LayoutByRank::Whole => true,
+        LayoutByRank::Rank1(layout) => is_on_one(layout),
+        LayoutByRank::Rank2(layout) => is_on_one(layout),
+        LayoutByRank::Rank3(layout) => is_on_one(layout),
     }
 }

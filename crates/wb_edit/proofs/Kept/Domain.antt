@@ -20,7 +20,7 @@ use Rattle.wb_cells.specs.WellFormed.{use_of, domain_at, array_at, index_cell}
 use Rattle.wb_cells.specs.Kinds.{kind_of}
 use Rattle.wb_edit.specs.declared.asked_rectangle.AskedRectangle.{AskedRectangle}
 use Rattle.wb_edit.specs.declared.asked_rectangle.AskedRectangle.TheVariants.{Ranges as Asked, Indices}
-use Rattle.wb_cells.specs.declared.refusal.Refusal.TheVariants.{WrongKind}
+use Rattle.wb_cells.specs.declared.refusal.WhyRefused.TheVariants.{WrongKind}
 use Rattle.wb_edit.specs.Commands.{domain, new_domain_changes}
 use Rattle.wb_edit.specs.Valid.{IsAsked}
 use Rattle.wb_edit.specs.Looks.{is_free}

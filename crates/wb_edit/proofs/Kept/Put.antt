@@ -12,7 +12,7 @@ use Rattle.wb_cells.specs.Shapes.{Range, indices}
 use Rattle.wb_cells.specs.WellFormed.{IsWellFormed}
 use Rattle.wb_edit.specs.declared.asked_numbers.AskedNumbers.{AskedNumbers}
 use Rattle.wb_edit.specs.declared.asked_numbers.AskedNumbers.TheVariants.{Rectangle, Indices}
-use Rattle.wb_cells.specs.declared.refusal.Refusal.TheVariants.{WrongKind}
+use Rattle.wb_cells.specs.declared.refusal.WhyRefused.TheVariants.{WrongKind}
 use Rattle.wb_edit.specs.Commands.{number_cells, put_numbers, put}
 use Rattle.wb_edit.specs.Looks.{array_kind}
 use Rattle.wb_edit.specs.Rectangles.{of_rank, all_there, all_elements}

@@ -10,7 +10,7 @@ use Rattle.wb_reshape.specs.declared.operand.Operand.{Operand}
 use Rattle.wb_reshape.specs.declared.operand.Operand.TheVariants.{Rectangle, Items, Named}
 use Rattle.wb_reshape.specs.declared.new_indices.NewIndices.{NewIndices}
 use Rattle.wb_reshape.specs.declared.new_indices.NewIndices.TheVariants.{To, Slice, Displace, Combine}
-use Rattle.wb_cells.specs.declared.refusal.Refusal.TheVariants.{WrongKind}
+use Rattle.wb_cells.specs.declared.refusal.WhyRefused.TheVariants.{WrongKind}
 use Rattle.wb_edit.specs.Trees.{Tree, judged, plain}
 use Rattle.wb_edit.specs.Commands.Reshape.{no_source, reshape_kind, reshape}
 use Rattle.wb_edit.specs.Looks.{domain_kind}

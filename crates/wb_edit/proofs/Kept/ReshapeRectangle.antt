@@ -32,8 +32,8 @@ use Rattle.wb_reshape.specs.Sources.{displaced, can_displace}
 use Rattle.wb_reshape.proofs.Fills.{arrays, zeros_fill, loses_none}
 use Rattle.wb_reshape.proofs.Rectangles.{keeps_rectangles}
 use Rattle.wb_reshape.proofs.Users.{users}
-use Rattle.wb_cells.specs.declared.refusal.Refusal.{Refusal}
-use Rattle.wb_cells.specs.declared.refusal.Refusal.TheVariants.{WrongKind}
+use Rattle.wb_cells.specs.declared.refusal.WhyRefused.{WhyRefused}
+use Rattle.wb_cells.specs.declared.refusal.WhyRefused.TheVariants.{WrongKind}
 use Rattle.wb_edit.specs.Trees.{Tree, judged}
 use Rattle.wb_edit.specs.Rectangles.{of_rank}
 use Rattle.wb_edit.specs.Reshaping.{shape_in, absent_if, none_present, shape, member_cells, none_there, reshaped_cells, reshaped}
@@ -44,7 +44,7 @@ use Rattle.wb_edit.specs.Looks.{domain_kind}
 use Rattle.wb_edit.specs.Users.{bound}
 use Rattle.wb_edit.specs.ValidSources.{IsOperand}
 use Rattle.wb_edit.specs.Writes.{set_to}
-use Rattle.wb_edit.proofs.IndexedCells.{map-append}
+use Rattle.wb_edit.proofs.IndexedRows.{map-append}
 use Rattle.wb_edit.proofs.Kept.Fill.{keeps_all}
 use Rattle.wb_edit.proofs.Kept.Resized.{holds_at}
 use Rattle.wb_edit.proofs.Kept.Steps.{Keeps, keeps_read, keeps_judged, domain_is, passed_is}
@@ -149,7 +149,7 @@ module _ (s : Cells) (rank : ℕ) (h : IsWellFormed s) where
 pub slice_is : (old by new : List Range) → slice_of old by ≡ Ok new → sliced old by ≡ new
 slice_is old by new e = from (length old == length by) e
   where
-    from : (b : Bool) → ◌≡◌ {A = Result (List Range) Refusal} (elim b [ true ↦ Ok (sliced old by) | false ↦ Err WrongKind ]) (Ok new) → sliced old by ≡ new
+    from : (b : Bool) → ◌≡◌ {A = Result (List Range) WhyRefused} (elim b [ true ↦ Ok (sliced old by) | false ↦ Err WrongKind ]) (Ok new) → sliced old by ≡ new
     from true e = cc
     from false e = cc
 
@@ -157,7 +157,7 @@ pub displacement_is : (how : Displacement) (offsets : List ℤ) (old new : List 
     (can_displace how offsets old ≡ true) × (displaced how offsets old ≡ new)
 displacement_is how offsets old new e = from (length offsets == length old) (has_unit_strides old) (can_displace how offsets old) (displaced how offsets old) e
   where
-    from : (fit unit_strides within : Bool) (rs : List Range) → ◌≡◌ {A = Result (List Range) Refusal}
+    from : (fit unit_strides within : Bool) (rs : List Range) → ◌≡◌ {A = Result (List Range) WhyRefused}
         (elim fit [ true ↦ displaced_if unit_strides within rs | false ↦ Err WrongKind ]) (Ok new) → (within ≡ true) × (rs ≡ new)
     from true true true rs e = (refl, cc)
     from true true false rs e = cc

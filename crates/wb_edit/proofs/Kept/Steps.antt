@@ -9,8 +9,8 @@ use Rattle.wb_cells.specs.declared.cells.value.Value.{Value}
 use Rattle.wb_cells.specs.declared.cells.value.Value.TheVariants.{Domain, Array}
 use Rattle.wb_cells.specs.Cells.{Name, Cells}
 use Rattle.wb_cells.specs.WellFormed.{IsWellFormed}
-use Rattle.wb_cells.specs.declared.refusal.Refusal.{Refusal}
-use Rattle.wb_cells.specs.declared.refusal.Refusal.TheVariants.{WrongKind}
+use Rattle.wb_cells.specs.declared.refusal.WhyRefused.{WhyRefused}
+use Rattle.wb_cells.specs.declared.refusal.WhyRefused.TheVariants.{WrongKind}
 use Rattle.wb_edit.specs.Trees.{Tree, read, judged}
 use Rattle.wb_edit.specs.Looks.{is_free, domain_kind, array_kind, is_there}
 use Rattle.wb_edit.proofs.Trees.{seen_value}
@@ -24,7 +24,7 @@ pub keeps_read : (s : Cells) (c : Cell) (next : Option Value → Tree) → ((v :
 keeps_read s c next kept = subst (λ v. Keeps (next v) s) (sym (seen_value s c)) (kept (get s c) refl)
 
 -- a judgement goes on with what it gives; where it refuses, nothing changes
-pub keeps_judged : {X : Type 0} (s : Cells) (j : Result X Refusal) (next : X → Tree) → IsWellFormed s → ((x : X) → j ≡ Ok x → Keeps (next x) s) →
+pub keeps_judged : {X : Type 0} (s : Cells) (j : Result X WhyRefused) (next : X → Tree) → IsWellFormed s → ((x : X) → j ≡ Ok x → Keeps (next x) s) →
     Keeps (judged j next) s
 keeps_judged s (Ok x) next h kept = kept x refl
 keeps_judged s (Err why) next h kept = h
@@ -48,6 +48,6 @@ there_is None x e = cc
 there_is (Some w) x e = (w, refl)
 
 -- a test that was passed
-pub passed_is : (b : Bool) (x : Unit {0}) → ◌≡◌ {A = Result (Unit {0}) Refusal} (elim b [ true ↦ Ok tt | false ↦ Err WrongKind ]) (Ok x) → b ≡ true
+pub passed_is : (b : Bool) (x : Unit {0}) → ◌≡◌ {A = Result (Unit {0}) WhyRefused} (elim b [ true ↦ Ok tt | false ↦ Err WrongKind ]) (Ok x) → b ≡ true
 passed_is true x e = refl
 passed_is false x e = cc

@@ -19,7 +19,7 @@ use Rattle.wb_cells.specs.Cells.{Name, Cells, cell_cmp}
 use Rattle.wb_cells.specs.Shapes.{Range, indices}
 use Rattle.wb_cells.specs.WellFormed.{IsWellFormed, IsRectangle, IsShape, domain_at, ranges_in}
 use Rattle.wb_reshape.proofs.Fills.{arrays, zeros_once, held_once}
-use Rattle.wb_cells.specs.declared.refusal.Refusal.{Refusal}
+use Rattle.wb_cells.specs.declared.refusal.WhyRefused.{WhyRefused}
 use Rattle.wb_edit.specs.Trees.{Tree, judged, read}
 use Rattle.wb_edit.specs.Rectangles.{read_all}
 use Rattle.wb_edit.specs.Reshaping.{shape_in, shape}
@@ -38,12 +38,12 @@ pub once_read : (s : Cells) (c : Cell) (next : Option Value → Tree) → Once (
 once_read s c next once = subst (λ v. Once (next v) s) (sym (seen_value s c)) once
 
 -- a judgement goes on with what it gives; where it refuses, nothing is written
-pub once_judged : {X : Type 0} (s : Cells) (j : Result X Refusal) (next : X → Tree) → ((x : X) → j ≡ Ok x → Once (next x) s) → Once (judged j next) s
+pub once_judged : {X : Type 0} (s : Cells) (j : Result X WhyRefused) (next : X → Tree) → ((x : X) → j ≡ Ok x → Once (next x) s) → Once (judged j next) s
 once_judged s (Ok x) next once = once x refl
 once_judged s (Err why) next once = tt
 
 -- a look at one cell whose value is judged
-pub once_test : {X : Type 0} (s : Cells) (c : Cell) (test : Option Value → Result X Refusal) (next : X → Tree) →
+pub once_test : {X : Type 0} (s : Cells) (c : Cell) (test : Option Value → Result X WhyRefused) (next : X → Tree) →
     ((x : X) → test (get s c) ≡ Ok x → Once (next x) s) → Once (read c (λ v. judged (test v) next)) s
 once_test s c test next once = once_read s c (λ v. judged (test v) next) (once_judged s (test (get s c)) next once)
 
@@ -71,7 +71,7 @@ shape_once None v none = subst (λ o. IsListedOnce (indices_of (ranges_in o))) (
 
 shape_whole : (o : Option DomainKind) (v : Option Value) (rs : List Range) → IsShape o v → shape_in v ≡ Ok rs → (rank : ℕ) × IsRectangle rank rs
 shape_whole (Some (Rectangular rank)) v rs whole found =
-    let given : ◌≡◌ {A = Result (List Range) Refusal} (Ok whole.0) (Ok rs) = ap shape_in (sym whole.1) ∙ found in
+    let given : ◌≡◌ {A = Result (List Range) WhyRefused} (Ok whole.0) (Ok rs) = ap shape_in (sym whole.1) ∙ found in
     let same : whole.0 ≡ rs = cc in
     (rank, subst (λ (ts : List Range). IsRectangle rank ts) same whole.2)
 shape_whole (Some (Sparse parent rank)) v rs none found = let no : shape_in None ≡ Ok rs = ap shape_in (sym none) ∙ found in cc

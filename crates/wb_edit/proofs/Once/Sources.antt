@@ -35,8 +35,8 @@ use Rattle.wb_reshape.proofs.Fills.{arrays, zeros_once}
 use Rattle.wb_reshape.proofs.Sources.{IsListedOnce-combined}
 use Rattle.wb_reshape.proofs.Users.{users}
 use Rattle.wb_reshape.proofs.Without.{IsListedOnce-without}
-use Rattle.wb_cells.specs.declared.refusal.Refusal.{Refusal}
-use Rattle.wb_cells.specs.declared.refusal.Refusal.TheVariants.{WrongKind}
+use Rattle.wb_cells.specs.declared.refusal.WhyRefused.{WhyRefused}
+use Rattle.wb_cells.specs.declared.refusal.WhyRefused.TheVariants.{WrongKind}
 use Rattle.wb_edit.specs.Changed.{AreApart}
 use Rattle.wb_edit.specs.Trees.{Tree, judged, plain}
 use Rattle.wb_edit.specs.Rectangles.{of_rank}
@@ -48,11 +48,11 @@ use Rattle.wb_edit.specs.Sources.{same_rank, alike, all_fit, slice_of, displaced
 use Rattle.wb_edit.specs.Looks.{domain_kind, member_in, members}
 use Rattle.wb_edit.specs.Users.{bound}
 use Rattle.wb_edit.specs.ValidSources.{IsOperand, AreNewIndices, IsOperandOnce, AreNewIndicesOnce}
-use Rattle.wb_edit.proofs.IndexedCells.{changes-append}
+use Rattle.wb_edit.proofs.IndexedRows.{changes-append}
 use Rattle.wb_edit.proofs.Exchanges.{neither, none_exchanged, apart_without}
 use Rattle.wb_edit.proofs.Kept.ReshapeRectangle.{slice_is, displacement_is, displaced_whole}
 use Rattle.wb_edit.proofs.Members.{members_once}
-use Rattle.wb_edit.proofs.Once.IndexedCells.{none_among, once_resized}
+use Rattle.wb_edit.proofs.Once.IndexedRows.{none_among, once_resized}
 use Rattle.wb_edit.proofs.Once.Looks.{Once, once_judged, once_test, once_all, once_shape, once_inside, once_defaults, rectangle_once}
 
 -- ---- indices of a sparse or associative domain
@@ -141,7 +141,7 @@ once_ranges_given s h (Named e) next valid once = once_shape s h e next once
 slice_alike : (old by new : List Range) → slice_of old by ≡ Ok new → length old ≡ length by
 slice_alike old by new e = eqb-true (length old) (length by) (from (length old == length by) e)
   where
-    from : (b : Bool) → ◌≡◌ {A = Result (List Range) Refusal} (elim b [ true ↦ Ok (sliced old by) | false ↦ Err WrongKind ]) (Ok new) → b ≡ true
+    from : (b : Bool) → ◌≡◌ {A = Result (List Range) WhyRefused} (elim b [ true ↦ Ok (sliced old by) | false ↦ Err WrongKind ]) (Ok new) → b ≡ true
     from true e = refl
     from false e = cc
 
@@ -149,7 +149,7 @@ displacement_alike : (how : Displacement) (offsets : List ℤ) (old new : List R
 displacement_alike how offsets old new e = eqb-true (length offsets) (length old)
     (from (length offsets == length old) (displaced_if (has_unit_strides old) (can_displace how offsets old) (displaced how offsets old)) e)
   where
-    from : (b : Bool) (r : Result (List Range) Refusal) → ◌≡◌ {A = Result (List Range) Refusal} (elim b [ true ↦ r | false ↦ Err WrongKind ]) (Ok new) →
+    from : (b : Bool) (r : Result (List Range) WhyRefused) → ◌≡◌ {A = Result (List Range) WhyRefused} (elim b [ true ↦ r | false ↦ Err WrongKind ]) (Ok new) →
         b ≡ true
     from true r e = refl
     from false r e = cc

@@ -15,7 +15,7 @@ use Rattle.wb_reshape.specs.declared.new_indices.NewIndices.{NewIndices}
 use Rattle.wb_reshape.specs.declared.new_indices.NewIndices.TheVariants.{To, Slice, Displace, Combine}
 use Rattle.wb_reshape.specs.Resized.{without}
 use Rattle.wb_reshape.specs.Sources.{combined}
-use Rattle.wb_cells.specs.declared.refusal.Refusal.TheVariants.{WrongKind}
+use Rattle.wb_cells.specs.declared.refusal.WhyRefused.TheVariants.{WrongKind}
 use Rattle.wb_edit.specs.Trees.{Tree, ◌>>=◌, judged, plain}
 use Rattle.wb_edit.specs.Reshaping.{shape, reshaped}
 use Rattle.wb_edit.specs.Resizing.{resized}

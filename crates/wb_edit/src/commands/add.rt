@@ -2,9 +2,9 @@ ghost use Rattle.std.specs.Prelude.{◌≡◌};
 ghost use Rattle.wb_edit.specs.Commands.{add, add_unless};
 ghost use Rattle.wb_edit.specs.Plans.{Attempts};
 
-use crate::attempt_err::{AttemptErr, stopped};
+use crate::attempt_err::{AttemptErr, or_refused};
 use crate::commands::resized::plan_resized;
-use crate::footprint::Footprint;
+use crate::footprint::ReadFootprint;
 use crate::looks::resizing::has_members;
 use crate::looks::{judgements, one_cell};
 use std::alloc::Global;
@@ -15,15 +15,15 @@ use wb_layers::Layered;
 pub(crate) fn plan_add(
     alloc: Global,
     book: &Layered<'_>,
-    footprint: &mut Footprint,
+    footprint: &mut ReadFootprint,
     domain: Name,
     index: AnyIndex,
 ) -> Result<Delta, AttemptErr>
     ensures { Attempts (add domain index) book.now.cells footprint.old result footprint.new }
 {
     let kind = one_cell::domain_named(book, footprint, domain)?;
-    stopped(has_members(&kind))?;
-    stopped(judgements::fits(kind.kind(), index))?;
+    or_refused(has_members(&kind))?;
+    or_refused(judgements::fits(kind.kind(), index))?;
     let there = one_cell::read(book, footprint, &Cell::Member(domain, index))?;
     add_unless(alloc, book, footprint, there, domain, &kind, index)
 }
@@ -31,7 +31,7 @@ pub(crate) fn plan_add(
 fn add_unless(
     alloc: Global,
     book: &Layered<'_>,
-    footprint: &mut Footprint,
+    footprint: &mut ReadFootprint,
     there: Option<Value>,
     domain: Name,
     kind: &AnyDomain,

@@ -9,22 +9,22 @@ ghost use Rattle.wb_edit.specs.Changed.{Judges, items_of, numbered, made_of, num
 ghost use Rattle.wb_edit.specs.Commands.{all, all_results, number_cells};
 ghost use Rattle.wb_edit.specs.Elements.{result_of, results, all_within};
 ghost use Rattle.wb_edit.specs.Numbers.{fits_integer};
-ghost use Rattle.wb_edit.specs.Plans.{Attempts, Makes, stopped};
+ghost use Rattle.wb_edit.specs.Plans.{Attempts, Makes, or_refused};
 
-use crate::attempt_err::{AttemptErr, stopped};
+use crate::attempt_err::{AttemptErr, or_refused};
 use crate::commands::seen::put_elements;
-use crate::footprint::Footprint;
+use crate::footprint::ReadFootprint;
 use crate::looks::{elements, numbers, one_cell};
 use crate::operation::Operation;
 use std::alloc::Global;
-use wb_cells::{AnyIndex, AnyRect, Delta, Name, Refusal, Row};
+use wb_cells::{AnyIndex, AnyRect, Delta, IndexedRow, Name, WhyRefused};
 use wb_layers::Layered;
 
 /// Each element of an array becomes what it and another array's element at the same index make.
 pub(crate) fn plan_all(
     alloc: Global,
     book: &Layered<'_>,
-    footprint: &mut Footprint,
+    footprint: &mut ReadFootprint,
     array: Name,
     how: &Operation,
     other: Name,
@@ -33,7 +33,7 @@ pub(crate) fn plan_all(
 {
     let (domain, _kind) = one_cell::array_named(book, footprint, array)?;
     let (over, _kind_of_other) = one_cell::array_named(book, footprint, other)?;
-    stopped(elements::same_domain(domain, over))?;
+    or_refused(elements::same_domain(domain, over))?;
     // For the proof: the workbook is well formed, so arrays over one domain have the same indices.
     book.is_formed();
     plan_all_results(alloc, book, footprint, array, how, other)
@@ -44,7 +44,7 @@ pub(crate) fn plan_all(
 fn plan_all_results(
     alloc: Global,
     book: &Layered<'_>,
-    footprint: &mut Footprint,
+    footprint: &mut ReadFootprint,
     array: Name,
     how: &Operation,
     other: Name,
@@ -124,7 +124,7 @@ fn number_of(element: &(AnyIndex, i64)) -> i64
     element.1
 }
 
-fn result_of(how: &Operation, x: i64, y: i64) -> Result<i64, Refusal>
+fn result_of(how: &Operation, x: i64, y: i64) -> Result<i64, WhyRefused>
     ensures { result ≡ fits_integer (result_of how.now x y) }
 {
     match how {
@@ -136,9 +136,9 @@ fn result_of(how: &Operation, x: i64, y: i64) -> Result<i64, Refusal>
 }
 
 fn result_at(how: &Operation, x: &(AnyIndex, i64), y: &(AnyIndex, i64)) -> Result<i64, AttemptErr>
-    ensures { result ≡ stopped (fits_integer (result_of how.now x.now.1 y.now.1)) }
+    ensures { result ≡ or_refused (fits_integer (result_of how.now x.now.1 y.now.1)) }
 {
-    stopped(result_of(how, number_of(x), number_of(y)))
+    or_refused(result_of(how, number_of(x), number_of(y)))
 }
 
 /// What the elements of two arrays at the same indices make, side by side.
@@ -178,9 +178,9 @@ fn numbers_made(how: &Operation, xs: Vec<i64>, ys: &[i64]) -> Result<Vec<i64>, A
 
 // What two numbers make.
 fn number_made(how: &Operation, x: &i64, y: &i64) -> Result<i64, AttemptErr>
-    ensures { result ≡ stopped (fits_integer (result_of how.now x.now y.now)) }
+    ensures { result ≡ or_refused (fits_integer (result_of how.now x.now y.now)) }
 {
-    stopped(result_of(how, *x, *y))
+    or_refused(result_of(how, *x, *y))
 }
 
 /// The elements of an array at the indices of ranges become numbers, one after another.
@@ -193,7 +193,7 @@ pub(crate) fn rectangle_changes(
     ensures { Makes (number_cells array (zip (indices ranges.now) numbers.items)) result }
 {
     let mut delta = Delta::new(alloc);
-    match delta.put_numbers(&Row::Elements(array), ranges, numbers) {
+    match delta.put_numbers(&IndexedRow::Elements(array), ranges, numbers) {
         Ok(()) => Ok(delta),
         Err(_) => Err(AttemptErr::NoMemory),
     }

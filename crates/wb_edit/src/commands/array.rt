@@ -5,19 +5,18 @@ ghost use Rattle.wb_edit.specs.Plans.{Attempts, Makes, indices_in};
 
 use crate::attempt_err::AttemptErr;
 use crate::commands::writes::{put, put_found};
-use crate::footprint::Footprint;
-use crate::indexed_cells::IndexedCells;
+use crate::footprint::ReadFootprint;
 use crate::looks::indices::{Indices, domain_indices};
 use crate::looks::one_cell;
 use std::alloc::Global;
-use wb_cells::{Binding, Cell, Delta, Kind, Name, Value};
+use wb_cells::{Binding, Cell, Delta, IndexedRow, Kind, Name, Value};
 use wb_layers::Layered;
 
 /// A new array over a domain.
 pub(crate) fn plan_array(
     alloc: Global,
     book: &Layered<'_>,
-    footprint: &mut Footprint,
+    footprint: &mut ReadFootprint,
     name: Name,
     domain: Name,
 ) -> Result<Delta, AttemptErr>
@@ -49,7 +48,7 @@ fn array_changes(
     put(&mut delta, Cell::Implicit(name), Value::Number(0))?;
     put_found(
         &mut delta,
-        &IndexedCells::Elements(name),
+        &IndexedRow::Elements(name),
         found,
         &Value::Number(0),
     )?;

@@ -2,9 +2,9 @@ ghost use Rattle.std.specs.Prelude.{◌≡◌};
 ghost use Rattle.wb_edit.specs.Commands.{copy};
 ghost use Rattle.wb_edit.specs.Plans.{Attempts};
 
-use crate::attempt_err::{AttemptErr, stopped};
+use crate::attempt_err::{AttemptErr, or_refused};
 use crate::commands::set::element_change;
-use crate::footprint::Footprint;
+use crate::footprint::ReadFootprint;
 use crate::looks::implicit::{ArrayRef, element_or_implicit};
 use crate::looks::{judgements, numbers, one_cell};
 use std::alloc::Global;
@@ -15,7 +15,7 @@ use wb_layers::Layered;
 pub(crate) fn plan_copy(
     alloc: Global,
     book: &Layered<'_>,
-    footprint: &mut Footprint,
+    footprint: &mut ReadFootprint,
     target: (Name, AnyIndex),
     source: (Name, AnyIndex),
     more: i64,
@@ -26,8 +26,8 @@ pub(crate) fn plan_copy(
     let (other, place) = source;
     let (_domain, kind) = one_cell::array_named(book, footprint, array)?;
     let (over, kind_of_other) = one_cell::array_named(book, footprint, other)?;
-    stopped(judgements::fits(kind, index))?;
-    stopped(judgements::fits(kind_of_other, place))?;
+    or_refused(judgements::fits(kind, index))?;
+    or_refused(judgements::fits(kind_of_other, place))?;
     one_cell::element(book, footprint, array, index)?;
     let from = ArrayRef {
         array: other,
@@ -35,6 +35,6 @@ pub(crate) fn plan_copy(
         kind: kind_of_other,
     };
     let number = element_or_implicit(book, footprint, &from, place)?;
-    let sum = stopped(numbers::sum(number, more))?;
+    let sum = or_refused(numbers::sum(number, more))?;
     element_change(alloc, array, index, sum)
 }

@@ -5,18 +5,17 @@ ghost use Rattle.wb_edit.specs.Plans.{Attempts, Makes};
 use crate::asked_rectangle::AskedRectangle;
 use crate::attempt_err::AttemptErr;
 use crate::commands::writes::{put, put_all};
-use crate::footprint::Footprint;
-use crate::indexed_cells::IndexedCells;
+use crate::footprint::ReadFootprint;
 use crate::looks::{layouts, one_cell, rectangles};
 use std::alloc::Global;
-use wb_cells::{AnyDomain, AnyLayout, AnyRect, Cell, Delta, DomainKind, Name, Value};
+use wb_cells::{AnyDomain, AnyLayout, AnyRect, Cell, Delta, DomainKind, IndexedRow, Name, Value};
 use wb_layers::Layered;
 
 /// A new rectangular domain.
 pub(crate) fn plan_domain(
     alloc: Global,
     book: &Layered<'_>,
-    footprint: &mut Footprint,
+    footprint: &mut ReadFootprint,
     name: Name,
     asked: &AskedRectangle,
     mapping: &AnyLayout,
@@ -44,7 +43,7 @@ fn domain_changes(
     put(&mut delta, Cell::Mapping(name), Value::Mapping(*mapping))?;
     put_all(
         &mut delta,
-        &IndexedCells::Inside(name),
+        &IndexedRow::Inside(name),
         ranges,
         &Value::Present,
     )?;

@@ -5,19 +5,18 @@ ghost use Rattle.wb_edit.specs.Plans.{Attempts, Makes, indices_in};
 
 use crate::attempt_err::AttemptErr;
 use crate::commands::writes::{become_found, change};
-use crate::footprint::Footprint;
-use crate::indexed_cells::IndexedCells;
+use crate::footprint::ReadFootprint;
 use crate::looks::indices::Indices;
 use crate::looks::{elements, one_cell};
 use std::alloc::Global;
-use wb_cells::{Cell, Delta, Name};
+use wb_cells::{Cell, Delta, IndexedRow, Name};
 use wb_layers::Layered;
 
 /// The end of an array.
 pub(crate) fn plan_drop_array(
     alloc: Global,
     book: &Layered<'_>,
-    footprint: &mut Footprint,
+    footprint: &mut ReadFootprint,
     array: Name,
 ) -> Result<Delta, AttemptErr>
     ensures { Attempts (drop_array array) book.now.cells footprint.old result footprint.new }
@@ -40,6 +39,6 @@ fn drop_changes(
     change(&mut delta, Cell::Object(array), None)?;
     change(&mut delta, Cell::Use(domain, array), None)?;
     change(&mut delta, Cell::Implicit(array), None)?;
-    become_found(&mut delta, &IndexedCells::Elements(array), found, &None)?;
+    become_found(&mut delta, &IndexedRow::Elements(array), found, &None)?;
     Ok(delta)
 }

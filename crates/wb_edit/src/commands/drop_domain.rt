@@ -6,9 +6,8 @@ ghost use Rattle.wb_edit.specs.Plans.{Attempts, Makes, indices_in};
 ghost use Rattle.wb_edit.specs.Writes.{clear_all};
 
 use crate::attempt_err::AttemptErr;
-use crate::commands::writes::{become_found, change};
-use crate::footprint::Footprint;
-use crate::indexed_cells::IndexedCells;
+use crate::commands::writes::{become_found, change, membership};
+use crate::footprint::ReadFootprint;
 use crate::looks::indices::{Indices, domain_indices};
 use crate::looks::one_cell;
 use crate::looks::users::unused;
@@ -20,7 +19,7 @@ use wb_layers::Layered;
 pub(crate) fn plan_drop_domain(
     alloc: Global,
     book: &Layered<'_>,
-    footprint: &mut Footprint,
+    footprint: &mut ReadFootprint,
     domain: Name,
 ) -> Result<Delta, AttemptErr>
     ensures { Attempts (drop_domain domain) book.now.cells footprint.old result footprint.new }
@@ -41,7 +40,7 @@ fn drop_changes(
     ensures { Makes (dropped_domain_cells domain kind.now (indices_in found.now)) result }
 {
     let mut delta = own_changes(alloc, domain, kind)?;
-    let indices = IndexedCells::Membership(kind.kind(), domain);
+    let indices = membership(&kind.kind(), domain);
     become_found(&mut delta, &indices, found, &None)?;
     Ok(delta)
 }

@@ -9,18 +9,17 @@ ghost use Rattle.wb_edit.specs.Writes.{put_all};
 use crate::asked_rectangle::AskedRectangle;
 use crate::attempt_err::AttemptErr;
 use crate::commands::writes::put_all;
-use crate::footprint::Footprint;
-use crate::indexed_cells::IndexedCells;
+use crate::footprint::ReadFootprint;
 use crate::looks::{one_cell, rectangles};
 use std::alloc::Global;
-use wb_cells::{AnyRect, Delta, Name, Value};
+use wb_cells::{AnyRect, Delta, IndexedRow, Name, Value};
 use wb_layers::Layered;
 
 /// One number at the indices of a rectangle.
 pub(crate) fn plan_fill(
     alloc: Global,
     book: &Layered<'_>,
-    footprint: &mut Footprint,
+    footprint: &mut ReadFootprint,
     array: Name,
     asked: &AskedRectangle,
     value: i64,
@@ -40,7 +39,7 @@ fn fill_changes(alloc: Global, array: Name, on: &AnyRect, value: i64) -> Result<
     let mut delta = Delta::new(alloc);
     put_all(
         &mut delta,
-        &IndexedCells::Elements(array),
+        &IndexedRow::Elements(array),
         on,
         &Value::Number(value),
     )?;

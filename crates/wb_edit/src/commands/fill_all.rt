@@ -8,19 +8,18 @@ ghost use Rattle.wb_edit.specs.Writes.{put_all};
 
 use crate::attempt_err::AttemptErr;
 use crate::commands::writes::put_found;
-use crate::footprint::Footprint;
-use crate::indexed_cells::IndexedCells;
+use crate::footprint::ReadFootprint;
 use crate::looks::indices::Indices;
 use crate::looks::{elements, one_cell};
 use std::alloc::Global;
-use wb_cells::{Delta, Name, Value};
+use wb_cells::{Delta, IndexedRow, Name, Value};
 use wb_layers::Layered;
 
 /// One number as every element of an array.
 pub(crate) fn plan_fill_all(
     alloc: Global,
     book: &Layered<'_>,
-    footprint: &mut Footprint,
+    footprint: &mut ReadFootprint,
     array: Name,
     value: i64,
 ) -> Result<Delta, AttemptErr>
@@ -41,6 +40,6 @@ fn fill_changes(
     ensures { Makes (put_all (map (Element array) (indices_in found.now)) value.now) result }
 {
     let mut delta = Delta::new(alloc);
-    put_found(&mut delta, &IndexedCells::Elements(array), found, value)?;
+    put_found(&mut delta, &IndexedRow::Elements(array), found, value)?;
     Ok(delta)
 }

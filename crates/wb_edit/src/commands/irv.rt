@@ -5,9 +5,9 @@ ghost use Rattle.wb_edit.specs.Commands.{irv};
 ghost use Rattle.wb_edit.specs.Plans.{Attempts, Makes};
 ghost use Rattle.wb_edit.specs.Writes.{set_to};
 
-use crate::attempt_err::{AttemptErr, stopped};
+use crate::attempt_err::{AttemptErr, or_refused};
 use crate::commands::writes::put;
-use crate::footprint::Footprint;
+use crate::footprint::ReadFootprint;
 use crate::looks::{kinds, one_cell};
 use std::alloc::Global;
 use wb_cells::{Cell, Delta, Name, Value};
@@ -17,14 +17,14 @@ use wb_layers::Layered;
 pub(crate) fn plan_irv(
     alloc: Global,
     book: &Layered<'_>,
-    footprint: &mut Footprint,
+    footprint: &mut ReadFootprint,
     array: Name,
     value: i64,
 ) -> Result<Delta, AttemptErr>
     ensures { Attempts (irv array value) book.now.cells footprint.old result footprint.new }
 {
     let (_domain, kind) = one_cell::array_named(book, footprint, array)?;
-    stopped(kinds::is_sparse(&kind))?;
+    or_refused(kinds::is_sparse(&kind))?;
     implicit_change(alloc, array, value)
 }
 

@@ -7,18 +7,18 @@ ghost use Rattle.wb_edit.specs.Plans.{Attempts, Makes};
 use crate::asked_numbers::AskedNumbers;
 use crate::attempt_err::AttemptErr;
 use crate::commands::all::rectangle_changes;
-use crate::footprint::Footprint;
+use crate::footprint::ReadFootprint;
 use crate::looks::{one_cell, rectangles};
 use crate::numbered_rectangle::NumberedRectangle;
 use std::alloc::Global;
-use wb_cells::{Delta, Kind, Name, Refusal};
+use wb_cells::{Delta, Kind, Name, WhyRefused};
 use wb_layers::Layered;
 
 /// A number for each index of a rectangle.
 pub(crate) fn plan_put(
     alloc: Global,
     book: &Layered<'_>,
-    footprint: &mut Footprint,
+    footprint: &mut ReadFootprint,
     array: Name,
     asked: &AskedNumbers,
 ) -> Result<Delta, AttemptErr>
@@ -29,7 +29,7 @@ pub(crate) fn plan_put(
         AskedNumbers::Rectangle(numbered) => {
             plan_numbers(alloc, book, footprint, array, kind, numbered)
         }
-        AskedNumbers::Indices => Err(AttemptErr::Refused(Refusal::WrongKind)),
+        AskedNumbers::Indices => Err(AttemptErr::Refused(WhyRefused::WrongKind)),
     }
 }
 
@@ -37,7 +37,7 @@ pub(crate) fn plan_put(
 fn plan_numbers(
     alloc: Global,
     book: &Layered<'_>,
-    footprint: &mut Footprint,
+    footprint: &mut ReadFootprint,
     array: Name,
     kind: Kind,
     numbered: &NumberedRectangle,

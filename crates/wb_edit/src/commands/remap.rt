@@ -5,9 +5,9 @@ ghost use Rattle.wb_edit.specs.Commands.{remap};
 ghost use Rattle.wb_edit.specs.Plans.{Attempts, Makes};
 ghost use Rattle.wb_edit.specs.Writes.{set_to};
 
-use crate::attempt_err::{AttemptErr, stopped};
+use crate::attempt_err::{AttemptErr, or_refused};
 use crate::commands::writes::put;
-use crate::footprint::Footprint;
+use crate::footprint::ReadFootprint;
 use crate::looks::{kinds, layouts, one_cell};
 use std::alloc::Global;
 use wb_cells::{AnyLayout, Cell, Delta, Name, Value};
@@ -17,15 +17,15 @@ use wb_layers::Layered;
 pub(crate) fn plan_remap(
     alloc: Global,
     book: &Layered<'_>,
-    footprint: &mut Footprint,
+    footprint: &mut ReadFootprint,
     domain: Name,
     mapping: &AnyLayout,
 ) -> Result<Delta, AttemptErr>
     ensures { Attempts (remap domain mapping.now) book.now.cells footprint.old result footprint.new }
 {
     let kind = one_cell::domain_named(book, footprint, domain)?;
-    let rank = stopped(kinds::rank_of(&kind))?;
-    stopped(layouts::for_rank(rank, mapping))?;
+    let rank = or_refused(kinds::rank_of(&kind))?;
+    or_refused(layouts::for_rank(rank, mapping))?;
     remap_changes(alloc, domain, mapping)
 }
 

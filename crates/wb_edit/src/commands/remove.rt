@@ -2,9 +2,9 @@ ghost use Rattle.std.specs.Prelude.{◌≡◌};
 ghost use Rattle.wb_edit.specs.Commands.{left, remove, remove_if};
 ghost use Rattle.wb_edit.specs.Plans.{Attempts};
 
-use crate::attempt_err::{AttemptErr, stopped};
+use crate::attempt_err::{AttemptErr, or_refused};
 use crate::commands::resized::resize_changes;
-use crate::footprint::Footprint;
+use crate::footprint::ReadFootprint;
 use crate::looks::resizing::{has_members, zeros};
 use crate::looks::users::{arrays, uses};
 use crate::looks::{judgements, one_cell};
@@ -16,15 +16,15 @@ use wb_layers::Layered;
 pub(crate) fn plan_remove(
     alloc: Global,
     book: &Layered<'_>,
-    footprint: &mut Footprint,
+    footprint: &mut ReadFootprint,
     domain: Name,
     index: AnyIndex,
 ) -> Result<Delta, AttemptErr>
     ensures { Attempts (remove domain index) book.now.cells footprint.old result footprint.new }
 {
     let kind = one_cell::domain_named(book, footprint, domain)?;
-    stopped(has_members(&kind))?;
-    stopped(judgements::fits(kind.kind(), index))?;
+    or_refused(has_members(&kind))?;
+    or_refused(judgements::fits(kind.kind(), index))?;
     let there = one_cell::read(book, footprint, &Cell::Member(domain, index))?;
     remove_if(alloc, book, footprint, there, domain, &kind, index)
 }
@@ -32,7 +32,7 @@ pub(crate) fn plan_remove(
 fn remove_if(
     alloc: Global,
     book: &Layered<'_>,
-    footprint: &mut Footprint,
+    footprint: &mut ReadFootprint,
     there: Option<Value>,
     domain: Name,
     kind: &AnyDomain,
@@ -50,7 +50,7 @@ fn remove_if(
 fn plan_left(
     alloc: Global,
     book: &Layered<'_>,
-    footprint: &mut Footprint,
+    footprint: &mut ReadFootprint,
     domain: Name,
     kind: &AnyDomain,
     index: AnyIndex,

@@ -11,7 +11,7 @@ ghost use Rattle.wb_edit.specs.declared.attempt_err.AttemptErr.TheVariants.{NoMe
 
 use crate::attempt_err::AttemptErr;
 use crate::commands::writes::change_indexed;
-use wb_cells::{AnyIndex, Delta, IndexedChange, Name, Row};
+use wb_cells::{AnyIndex, Delta, IndexedChange, IndexedRow, Name};
 
 // The number of an element, which is to be there.
 fn number_of(element: &(AnyIndex, i64)) -> Option<i64>
@@ -33,7 +33,7 @@ pub(crate) fn put_elements(
 {
     for e in elements {
         let change = IndexedChange {
-            row: Row::Elements(array),
+            row: IndexedRow::Elements(array),
             index: e.0,
             number: number_of(e),
         };

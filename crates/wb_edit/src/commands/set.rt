@@ -5,9 +5,9 @@ ghost use Rattle.wb_edit.specs.Commands.{set};
 ghost use Rattle.wb_edit.specs.Plans.{Attempts, Makes};
 ghost use Rattle.wb_edit.specs.Writes.{set_to};
 
-use crate::attempt_err::{AttemptErr, stopped};
+use crate::attempt_err::{AttemptErr, or_refused};
 use crate::commands::writes::put;
-use crate::footprint::Footprint;
+use crate::footprint::ReadFootprint;
 use crate::looks::{judgements, one_cell};
 use std::alloc::Global;
 use wb_cells::{AnyIndex, Cell, Delta, Name, Value};
@@ -17,7 +17,7 @@ use wb_layers::Layered;
 pub(crate) fn plan_set(
     alloc: Global,
     book: &Layered<'_>,
-    footprint: &mut Footprint,
+    footprint: &mut ReadFootprint,
     array: Name,
     index: AnyIndex,
     value: i64,
@@ -25,7 +25,7 @@ pub(crate) fn plan_set(
     ensures { Attempts (set array index value) book.now.cells footprint.old result footprint.new }
 {
     let (_domain, kind) = one_cell::array_named(book, footprint, array)?;
-    stopped(judgements::fits(kind, index))?;
+    or_refused(judgements::fits(kind, index))?;
     one_cell::element(book, footprint, array, index)?;
     element_change(alloc, array, index, value)
 }

@@ -7,9 +7,9 @@ ghost use Rattle.wb_edit.specs.Commands.{sparse};
 ghost use Rattle.wb_edit.specs.Plans.{Attempts, Makes};
 ghost use Rattle.wb_edit.specs.Writes.{set_to};
 
-use crate::attempt_err::{AttemptErr, stopped};
+use crate::attempt_err::{AttemptErr, or_refused};
 use crate::commands::writes::put;
-use crate::footprint::Footprint;
+use crate::footprint::ReadFootprint;
 use crate::looks::{kinds, one_cell};
 use std::alloc::Global;
 use wb_cells::{AnyDomain, Binding, Cell, Delta, DomainKind, Name, Value};
@@ -19,7 +19,7 @@ use wb_layers::Layered;
 pub(crate) fn plan_sparse(
     alloc: Global,
     book: &Layered<'_>,
-    footprint: &mut Footprint,
+    footprint: &mut ReadFootprint,
     name: Name,
     parent: Name,
 ) -> Result<Delta, AttemptErr>
@@ -27,7 +27,7 @@ pub(crate) fn plan_sparse(
 {
     one_cell::free_name(book, footprint, name)?;
     let kind = one_cell::domain_named(book, footprint, parent)?;
-    let rank = stopped(kinds::rank_of(&kind))?;
+    let rank = or_refused(kinds::rank_of(&kind))?;
     sparse_changes(alloc, name, parent, rank)
 }
 

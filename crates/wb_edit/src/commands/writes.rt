@@ -11,16 +11,15 @@ ghost use Rattle.wb_cells.specs.declared.cells.cell.Cell.TheVariants.{Element};
 ghost use Rattle.wb_cells.specs.declared.cells.value.Value.TheVariants.{Number};
 ghost use Rattle.wb_cells.specs.declared.values.index.Index.{Index};
 ghost use Rattle.wb_range.specs.Domain.{IsListedOnce};
-ghost use Rattle.wb_edit.specs.Plans.{cell_at, indices_in};
+ghost use Rattle.wb_edit.specs.Plans.{indices_in};
 ghost use Rattle.wb_edit.specs.Changed.{set_all, AreApart};
 ghost use Rattle.wb_edit.specs.Writes.{set_to, put_all};
 ghost use Rattle.wb_reshape.specs.Resized.{exchanged, elements_exchanged, resized_cells};
 ghost use Rattle.wb_edit.specs.declared.attempt_err.AttemptErr.TheVariants.{NoMemory};
 
 use crate::attempt_err::AttemptErr;
-use crate::indexed_cells::{IndexedCells, cell_at, row_of};
 use crate::looks::indices::Indices;
-use wb_cells::{AnyIndex, AnyRect, Cell, Delta, IndexedChange, Kind, Name, Row, Value};
+use wb_cells::{AnyIndex, AnyRect, Cell, Delta, IndexedChange, IndexedRow, Kind, Name, Value};
 
 /// Adds that a cell, which is not there yet, becomes a value, or absent.
 pub(crate) fn change(delta: &mut Delta, cell: Cell, value: Option<Value>) -> Result<(), AttemptErr>
@@ -55,21 +54,38 @@ pub(crate) fn change_indexed(delta: &mut Delta, change: &IndexedChange) -> Resul
     }
 }
 
+/// The row of the cells that say which indices are in a domain of a kind.
+pub(crate) fn membership(kind: &Kind, domain: Name) -> IndexedRow
+    ensures { (i : Index) → cell_of result i ≡ index_cell kind.now domain i }
+{
+    match kind {
+        Kind::Rectangular(_) => IndexedRow::Inside(domain),
+        Kind::Sparse(_) => IndexedRow::Members(domain),
+        Kind::Associative(_) => IndexedRow::Members(domain),
+    }
+}
+
 // Adds that the cell of an index, which is not there yet, becomes a value, or absent.
 fn change_at(
     delta: &mut Delta,
-    indexed: &IndexedCells,
+    row: &IndexedRow,
     index: AnyIndex,
     value: &Option<Value>,
 ) -> Result<(), AttemptErr>
-    requires { changes cell_cmp delta.old (cell_at indexed.now index) ≡ false }
-    ensures ok { OnOk result (delta.new ≡ delta.old ++ record { cell = cell_at indexed.now index; value = value.now } ∷ []) }
+    requires { changes cell_cmp delta.old (cell_of row.now index) ≡ false }
+    ensures ok { OnOk result (delta.new ≡ delta.old ++ record { cell = cell_of row.now index; value = value.now } ∷ []) }
     ensures only { IfErr result (λ e. e ≡ NoMemory) }
 {
-    let row = row_of(indexed);
     match row.number(value) {
-        Some(number) => change_indexed(delta, &IndexedChange { row, index, number }),
-        None => change(delta, cell_at(indexed, index), *value),
+        Some(number) => change_indexed(
+            delta,
+            &IndexedChange {
+                row: *row,
+                index,
+                number,
+            },
+        ),
+        None => change(delta, row.cell(index), *value),
     }
 }
 
@@ -77,7 +93,7 @@ fn change_at(
 // absent. However many there are, they take the room of their ranges.
 fn become_rectangle(
     delta: &mut Delta,
-    row: &Row,
+    row: &IndexedRow,
     ranges: &AnyRect,
     number: Option<i64>,
 ) -> Result<(), AttemptErr>
@@ -94,18 +110,18 @@ fn become_rectangle(
 // Adds that the cell of each index, none of which is there yet, becomes a value, or absent, one after another.
 fn become_each(
     delta: &mut Delta,
-    indexed: &IndexedCells,
+    row: &IndexedRow,
     ranges: &AnyRect,
     value: &Option<Value>,
 ) -> Result<(), AttemptErr>
-    requires { (i : Index) → changes cell_cmp delta.old (cell_at indexed.now i) ≡ false }
-    ensures ok { OnOk result (delta.new ≡ delta.old ++ set_all (map (cell_at indexed.now) (indices ranges.now)) value.now) }
+    requires { (i : Index) → changes cell_cmp delta.old (cell_of row.now i) ≡ false }
+    ensures ok { OnOk result (delta.new ≡ delta.old ++ set_all (map (cell_of row.now) (indices ranges.now)) value.now) }
     ensures only { IfErr result (λ e. e ≡ NoMemory) }
 {
     for p in 0..ranges.size() {
         match ranges.nth(p) {
             Some(index) => {
-                change_at(delta, indexed, index, value)?;
+                change_at(delta, row, index, value)?;
             }
             None => {}
         }
@@ -117,33 +133,32 @@ fn become_each(
 /// stand in these cells.
 fn become_all(
     delta: &mut Delta,
-    indexed: &IndexedCells,
+    row: &IndexedRow,
     ranges: &AnyRect,
     value: &Option<Value>,
 ) -> Result<(), AttemptErr>
-    requires { (i : Index) → changes cell_cmp delta.old (cell_at indexed.now i) ≡ false }
-    ensures ok { OnOk result (delta.new ≡ delta.old ++ set_all (map (cell_at indexed.now) (indices ranges.now)) value.now) }
+    requires { (i : Index) → changes cell_cmp delta.old (cell_of row.now i) ≡ false }
+    ensures ok { OnOk result (delta.new ≡ delta.old ++ set_all (map (cell_of row.now) (indices ranges.now)) value.now) }
     ensures only { IfErr result (λ e. e ≡ NoMemory) }
 {
-    let row = row_of(indexed);
     match row.number(value) {
-        Some(number) => become_rectangle(delta, &row, ranges, number),
-        None => become_each(delta, indexed, ranges, value),
+        Some(number) => become_rectangle(delta, row, ranges, number),
+        None => become_each(delta, row, ranges, value),
     }
 }
 
 /// Adds that the cell of each index, none of which is there yet, gets a value.
 pub(crate) fn put_all(
     delta: &mut Delta,
-    indexed: &IndexedCells,
+    row: &IndexedRow,
     ranges: &AnyRect,
     value: &Value,
 ) -> Result<(), AttemptErr>
-    requires { (i : Index) → changes cell_cmp delta.old (cell_at indexed.now i) ≡ false }
-    ensures ok { OnOk result (delta.new ≡ delta.old ++ put_all (map (cell_at indexed.now) (indices ranges.now)) value.now) }
+    requires { (i : Index) → changes cell_cmp delta.old (cell_of row.now i) ≡ false }
+    ensures ok { OnOk result (delta.new ≡ delta.old ++ put_all (map (cell_of row.now) (indices ranges.now)) value.now) }
     ensures only { IfErr result (λ e. e ≡ NoMemory) }
 {
-    become_all(delta, indexed, ranges, &Some(*value))
+    become_all(delta, row, ranges, &Some(*value))
 }
 
 /// The domain of a name, with its kind.
@@ -162,19 +177,19 @@ fn nth(listed: &[AnyIndex], p: usize) -> Option<AnyIndex>
 /// Adds that the cell of each of some indices, each of them once and none there yet, becomes a value, or absent.
 fn become_listed(
     delta: &mut Delta,
-    indexed: &IndexedCells,
+    row: &IndexedRow,
     listed: &[AnyIndex],
     value: &Option<Value>,
 ) -> Result<(), AttemptErr>
     requires once { IsListedOnce listed.now }
-    requires new { (p : ℕ) (i : Index) → slice_get listed.now p ≡ Some i → changes cell_cmp delta.old (cell_at indexed.now i) ≡ false }
-    ensures ok { OnOk result (delta.new ≡ delta.old ++ set_all (map (cell_at indexed.now) listed.now) value.now) }
+    requires new { (p : ℕ) (i : Index) → slice_get listed.now p ≡ Some i → changes cell_cmp delta.old (cell_of row.now i) ≡ false }
+    ensures ok { OnOk result (delta.new ≡ delta.old ++ set_all (map (cell_of row.now) listed.now) value.now) }
     ensures only { IfErr result (λ e. e ≡ NoMemory) }
 {
     for p in 0..listed.len() {
         match nth(listed, p) {
             Some(index) => {
-                change_at(delta, indexed, index, value)?;
+                change_at(delta, row, index, value)?;
             }
             None => {}
         }
@@ -185,23 +200,23 @@ fn become_listed(
 /// Adds that the cell of each of some indices, each of them once and none there yet, gets a value.
 fn put_listed(
     delta: &mut Delta,
-    indexed: &IndexedCells,
+    row: &IndexedRow,
     listed: &[AnyIndex],
     value: &Value,
 ) -> Result<(), AttemptErr>
     requires once { IsListedOnce listed.now }
-    requires new { (p : ℕ) (i : Index) → slice_get listed.now p ≡ Some i → changes cell_cmp delta.old (cell_at indexed.now i) ≡ false }
-    ensures ok { OnOk result (delta.new ≡ delta.old ++ put_all (map (cell_at indexed.now) listed.now) value.now) }
+    requires new { (p : ℕ) (i : Index) → slice_get listed.now p ≡ Some i → changes cell_cmp delta.old (cell_of row.now i) ≡ false }
+    ensures ok { OnOk result (delta.new ≡ delta.old ++ put_all (map (cell_of row.now) listed.now) value.now) }
     ensures only { IfErr result (λ e. e ≡ NoMemory) }
 {
-    become_listed(delta, indexed, listed, &Some(*value))
+    become_listed(delta, row, listed, &Some(*value))
 }
 
 /// Adds that of the cells of indices, none of which is there yet, those of the indices that leave become absent, and those of the
 /// indices that come get a value.
 pub(crate) fn exchange(
     delta: &mut Delta,
-    indexed: &IndexedCells,
+    row: &IndexedRow,
     leaving: &[AnyIndex],
     coming: &[AnyIndex],
     value: &Value,
@@ -209,12 +224,12 @@ pub(crate) fn exchange(
     requires leaving { IsListedOnce leaving.now }
     requires coming { IsListedOnce coming.now }
     requires apart { AreApart leaving.now coming.now }
-    requires new { (i : Index) → changes cell_cmp delta.old (cell_at indexed.now i) ≡ false }
-    ensures ok { OnOk result (delta.new ≡ delta.old ++ exchanged (cell_at indexed.now) leaving.now coming.now value.now) }
+    requires new { (i : Index) → changes cell_cmp delta.old (cell_of row.now i) ≡ false }
+    ensures ok { OnOk result (delta.new ≡ delta.old ++ exchanged (cell_of row.now) leaving.now coming.now value.now) }
     ensures only { IfErr result (λ e. e ≡ NoMemory) }
 {
-    become_listed(delta, indexed, leaving, &None)?;
-    put_listed(delta, indexed, coming, value)
+    become_listed(delta, row, leaving, &None)?;
+    put_listed(delta, row, coming, value)
 }
 
 // The number beside an array.
@@ -248,7 +263,7 @@ fn exchange_elements(
     for fill in fills {
         exchange(
             delta,
-            &IndexedCells::Elements(fill.0),
+            &IndexedRow::Elements(fill.0),
             leaving,
             coming,
             &number_of(fill),
@@ -281,7 +296,7 @@ pub(crate) fn resize(
 {
     exchange(
         delta,
-        &IndexedCells::Membership(domain.kind, domain.name),
+        &membership(&domain.kind, domain.name),
         leaving,
         coming,
         &Value::Present,
@@ -292,32 +307,32 @@ pub(crate) fn resize(
 /// Adds that the cell of each index that was found, none of which is there yet, becomes a value, or absent.
 pub(crate) fn become_found(
     delta: &mut Delta,
-    indexed: &IndexedCells,
+    row: &IndexedRow,
     found: &Indices,
     value: &Option<Value>,
 ) -> Result<(), AttemptErr>
     requires once { IsListedOnce (indices_in found.now) }
-    requires new { (i : Index) → changes cell_cmp delta.old (cell_at indexed.now i) ≡ false }
-    ensures ok { OnOk result (delta.new ≡ delta.old ++ set_all (map (cell_at indexed.now) (indices_in found.now)) value.now) }
+    requires new { (i : Index) → changes cell_cmp delta.old (cell_of row.now i) ≡ false }
+    ensures ok { OnOk result (delta.new ≡ delta.old ++ set_all (map (cell_of row.now) (indices_in found.now)) value.now) }
     ensures only { IfErr result (λ e. e ≡ NoMemory) }
 {
     match found {
-        Indices::Product(ranges) => become_all(delta, indexed, ranges, value),
-        Indices::Listed(listed) => become_listed(delta, indexed, listed, value),
+        Indices::Product(ranges) => become_all(delta, row, ranges, value),
+        Indices::Listed(listed) => become_listed(delta, row, listed, value),
     }
 }
 
 /// Adds that the cell of each index that was found, none of which is there yet, gets a value.
 pub(crate) fn put_found(
     delta: &mut Delta,
-    indexed: &IndexedCells,
+    row: &IndexedRow,
     found: &Indices,
     value: &Value,
 ) -> Result<(), AttemptErr>
     requires once { IsListedOnce (indices_in found.now) }
-    requires new { (i : Index) → changes cell_cmp delta.old (cell_at indexed.now i) ≡ false }
-    ensures ok { OnOk result (delta.new ≡ delta.old ++ put_all (map (cell_at indexed.now) (indices_in found.now)) value.now) }
+    requires new { (i : Index) → changes cell_cmp delta.old (cell_of row.now i) ≡ false }
+    ensures ok { OnOk result (delta.new ≡ delta.old ++ put_all (map (cell_of row.now) (indices_in found.now)) value.now) }
     ensures only { IfErr result (λ e. e ≡ NoMemory) }
 {
-    become_found(delta, indexed, found, &Some(*value))
+    become_found(delta, row, found, &Some(*value))
 }

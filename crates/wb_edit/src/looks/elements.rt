@@ -9,15 +9,15 @@ ghost use Rattle.wb_edit.specs.Elements.{element_indices, same_domain};
 ghost use Rattle.wb_edit.specs.Plans.{Looks, indices_in, shown_indices};
 
 use crate::attempt_err::AttemptErr;
-use crate::footprint::Footprint;
+use crate::footprint::ReadFootprint;
 use crate::looks::indices::Indices;
 use std::alloc::Global;
-use wb_cells::{AnyIndex, Name, Pattern, Refusal};
+use wb_cells::{AnyIndex, Name, Pattern, WhyRefused};
 use wb_layers::Layered;
 use wb_range::NoMemory;
 
 /// All elements of an array are looked at, whether or not they are listed.
-pub(crate) fn look_at_elements(footprint: &mut Footprint, array: Name) -> Result<(), AttemptErr>
+pub(crate) fn look_at_elements(footprint: &mut ReadFootprint, array: Name) -> Result<(), AttemptErr>
     ensures read { OnOk result (footprint.new ≡ footprint.old ++ Elements array ∷ []) }
     ensures only { IfErr result (λ e. e ≡ AttemptErr.NoMemory) }
 {
@@ -59,7 +59,7 @@ fn indices_there(alloc: Global, book: &Layered<'_>, array: Name) -> Result<Indic
 pub(crate) fn element_indices(
     alloc: Global,
     book: &Layered<'_>,
-    footprint: &mut Footprint,
+    footprint: &mut ReadFootprint,
     array: Name,
 ) -> Result<Indices, AttemptErr>
     ensures looks { Looks (element_indices array) book.now.cells footprint.old (shown_indices result) footprint.new }
@@ -73,12 +73,12 @@ pub(crate) fn element_indices(
 }
 
 /// That two arrays are over one domain, by the names of their domains; `WrongKind` where they are not.
-pub fn same_domain(domain: Name, other: Name) -> Result<(), Refusal>
+pub(crate) fn same_domain(domain: Name, other: Name) -> Result<(), WhyRefused>
     ensures { result ≡ same_domain domain other }
 {
     if domain == other {
         Ok(())
     } else {
-        Err(Refusal::WrongKind)
+        Err(WhyRefused::WrongKind)
     }
 }

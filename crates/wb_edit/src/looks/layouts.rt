@@ -2,25 +2,25 @@
 
 ghost use Rattle.std.specs.Prelude.{◌≡◌, length};
 ghost use Rattle.wb_edit.specs.Layouts.{for_rank};
-ghost use Rattle.wb_edit.specs.Plans.{stopped};
+ghost use Rattle.wb_edit.specs.Plans.{or_refused};
 
-use crate::attempt_err::{AttemptErr, stopped};
-use wb_cells::{AnyLayout, AnyRect, Refusal};
+use crate::attempt_err::{AttemptErr, or_refused};
+use wb_cells::{AnyLayout, AnyRect, WhyRefused};
 
 /// That the mapping is for domains of the rank; `BadMapping` where it is not.
-pub fn for_rank(rank: u8, mapping: &AnyLayout) -> Result<(), Refusal>
+pub(crate) fn for_rank(rank: u8, mapping: &AnyLayout) -> Result<(), WhyRefused>
     ensures { result ≡ for_rank rank mapping.now }
 {
     if mapping.is_of_rank(rank) {
         Ok(())
     } else {
-        Err(Refusal::BadMapping)
+        Err(WhyRefused::BadMapping)
     }
 }
 
 /// The mapping is for domains of the rank of these ranges.
 pub(crate) fn for_rectangle(ranges: &AnyRect, mapping: &AnyLayout) -> Result<(), AttemptErr>
-    ensures { result ≡ stopped (for_rank (length ranges.now) mapping.now) }
+    ensures { result ≡ or_refused (for_rank (length ranges.now) mapping.now) }
 {
-    stopped(for_rank(ranges.rank(), mapping))
+    or_refused(for_rank(ranges.rank(), mapping))
 }

@@ -8,18 +8,18 @@ ghost use Rattle.wb_edit.specs.Objects.{is_empty, no_object};
 ghost use Rattle.wb_edit.specs.Plans.{Looks};
 ghost use Rattle.wb_edit.specs.declared.attempt_err.AttemptErr.TheVariants.{NoMemory};
 
-use crate::attempt_err::{AttemptErr, stopped};
-use crate::footprint::Footprint;
-use wb_cells::{Name, Pattern, Refusal};
+use crate::attempt_err::{AttemptErr, or_refused};
+use crate::footprint::ReadFootprint;
+use wb_cells::{Name, Pattern, WhyRefused};
 use wb_layers::Layered;
 
 // That a look at all objects shows none, by the first of them; `NotEmpty` where it shows one.
-fn is_empty(first: Option<Name>) -> Result<(), Refusal>
+fn is_empty(first: Option<Name>) -> Result<(), WhyRefused>
     ensures { (s : Cells) → first ≡ slice_get (objects s) 0 → result ≡ is_empty (seen s Objects) }
 {
     match first {
         None => Ok(()),
-        Some(_) => Err(Refusal::NotEmpty),
+        Some(_) => Err(WhyRefused::NotEmpty),
     }
 }
 
@@ -35,13 +35,13 @@ fn shown_first(book: &Layered<'_>) -> Result<Option<Name>, AttemptErr>
 }
 
 /// There is no object. However many there are, it takes no memory for them where no change of an object is laid over them.
-pub(crate) fn no_object(book: &Layered<'_>, footprint: &mut Footprint) -> Result<(), AttemptErr>
+pub(crate) fn no_object(book: &Layered<'_>, footprint: &mut ReadFootprint) -> Result<(), AttemptErr>
     ensures { Looks no_object book.now.cells footprint.old result footprint.new }
 {
     match footprint.keep(Pattern::Objects) {
         Ok(()) => {
             let first = shown_first(book)?;
-            stopped(is_empty(first))
+            or_refused(is_empty(first))
         }
         Err(_) => Err(AttemptErr::NoMemory),
     }

@@ -6,8 +6,8 @@ ghost use Rattle.wb_edit.specs.Trees.{read};
 ghost use Rattle.wb_edit.specs.Looks.{free_name, domain_named, array_named, element};
 ghost use Rattle.wb_edit.specs.Plans.{Looks};
 
-use crate::attempt_err::{AttemptErr, stopped};
-use crate::footprint::Footprint;
+use crate::attempt_err::{AttemptErr, or_refused};
+use crate::footprint::ReadFootprint;
 use crate::looks::judgements;
 use wb_cells::{AnyCell, AnyDomain, AnyIndex, Cell, Kind, Name, Pattern, Value};
 use wb_layers::Layered;
@@ -15,7 +15,7 @@ use wb_layers::Layered;
 /// What a cell holds.
 pub(crate) fn read(
     book: &Layered<'_>,
-    footprint: &mut Footprint,
+    footprint: &mut ReadFootprint,
     cell: &Cell,
 ) -> Result<Option<Value>, AttemptErr>
     ensures { Looks (read cell.now) book.now.cells footprint.old result footprint.new }
@@ -29,48 +29,48 @@ pub(crate) fn read(
 /// Nothing has the name.
 pub(crate) fn free_name(
     book: &Layered<'_>,
-    footprint: &mut Footprint,
+    footprint: &mut ReadFootprint,
     name: Name,
 ) -> Result<(), AttemptErr>
     ensures { Looks (free_name name) book.now.cells footprint.old result footprint.new }
 {
     let object = read(book, footprint, &Cell::Object(name))?;
-    stopped(judgements::is_free(object))
+    or_refused(judgements::is_free(object))
 }
 
 /// The name is there, and names a domain: what it is.
 pub(crate) fn domain_named(
     book: &Layered<'_>,
-    footprint: &mut Footprint,
+    footprint: &mut ReadFootprint,
     domain: Name,
 ) -> Result<AnyDomain, AttemptErr>
     ensures { Looks (domain_named domain) book.now.cells footprint.old result footprint.new }
 {
     let object = read(book, footprint, &Cell::Object(domain))?;
-    stopped(judgements::domain_kind(object))
+    or_refused(judgements::domain_kind(object))
 }
 
 /// The name is there, and names an array: its domain, and that domain's kind.
 pub(crate) fn array_named(
     book: &Layered<'_>,
-    footprint: &mut Footprint,
+    footprint: &mut ReadFootprint,
     array: Name,
 ) -> Result<(Name, Kind), AttemptErr>
     ensures { Looks (array_named array) book.now.cells footprint.old result footprint.new }
 {
     let object = read(book, footprint, &Cell::Object(array))?;
-    stopped(judgements::array_kind(object))
+    or_refused(judgements::array_kind(object))
 }
 
 /// The element is there.
 pub(crate) fn element(
     book: &Layered<'_>,
-    footprint: &mut Footprint,
+    footprint: &mut ReadFootprint,
     array: Name,
     index: AnyIndex,
 ) -> Result<(), AttemptErr>
     ensures { Looks (element array index) book.now.cells footprint.old result footprint.new }
 {
     let element = read(book, footprint, &Cell::Element(array, index))?;
-    stopped(judgements::is_there(element))
+    or_refused(judgements::is_there(element))
 }

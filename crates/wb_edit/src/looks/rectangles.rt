@@ -8,32 +8,32 @@ ghost use Rattle.std.specs.Map.{keys_of};
 ghost use Rattle.wb_cells.specs.Readers.{elements};
 ghost use Rattle.wb_cells.specs.Shapes.{indices};
 ghost use Rattle.wb_cells.specs.declared.cells.cell.Cell.TheVariants.{Element};
-ghost use Rattle.wb_edit.specs.Plans.{Looks, stopped};
+ghost use Rattle.wb_edit.specs.Plans.{Looks, or_refused};
 ghost use Rattle.wb_cells.specs.Reads.{one_of};
 ghost use Rattle.wb_edit.specs.Rectangles.{ranges_of, is_rectangular_of, of_rank, there_if, all_elements};
 ghost use Rattle.wb_edit.specs.declared.attempt_err.AttemptErr.TheVariants.{NoMemory};
 
 use crate::asked_rectangle::AskedRectangle;
-use crate::attempt_err::{AttemptErr, stopped};
-use crate::footprint::Footprint;
-use wb_cells::{AnyCell, AnyIndex, AnyRect, Cell, Kind, Name, Pattern, Refusal, Row};
+use crate::attempt_err::{AttemptErr, or_refused};
+use crate::footprint::ReadFootprint;
+use wb_cells::{AnyCell, AnyIndex, AnyRect, Cell, IndexedRow, Kind, Name, Pattern, WhyRefused};
 use wb_layers::Layered;
 
 /// The ranges of the rectangle that is asked for; `WrongKind` where a set is in its place.
-pub fn ranges_of(asked: &AskedRectangle) -> Result<AnyRect, Refusal>
+pub(crate) fn ranges_of(asked: &AskedRectangle) -> Result<AnyRect, WhyRefused>
     ensures { result ≡ ranges_of asked.now }
 {
     match asked {
         AskedRectangle::Ranges(ranges) => Ok(*ranges),
-        AskedRectangle::Indices => Err(Refusal::WrongKind),
+        AskedRectangle::Indices => Err(WhyRefused::WrongKind),
     }
 }
 
 /// A rectangle is asked for, and no set.
 pub(crate) fn asked_ranges(asked: &AskedRectangle) -> Result<AnyRect, AttemptErr>
-    ensures { result ≡ stopped (ranges_of asked.now) }
+    ensures { result ≡ or_refused (ranges_of asked.now) }
 {
-    stopped(ranges_of(asked))
+    or_refused(ranges_of(asked))
 }
 
 fn is_rectangular_of(rank: u8, kind: Kind) -> bool
@@ -47,38 +47,38 @@ fn is_rectangular_of(rank: u8, kind: Kind) -> bool
 }
 
 /// The array is over a rectangular domain of the rank.
-pub fn of_rank(rank: u8, kind: Kind) -> Result<(), Refusal>
+pub(crate) fn of_rank(rank: u8, kind: Kind) -> Result<(), WhyRefused>
     ensures { result ≡ of_rank rank kind }
 {
     if is_rectangular_of(rank, kind) {
         Ok(())
     } else {
-        Err(Refusal::WrongKind)
+        Err(WhyRefused::WrongKind)
     }
 }
 
 /// The array is over a rectangular domain of the rank of these ranges.
 pub(crate) fn over_rectangle(on: &AnyRect, kind: Kind) -> Result<(), AttemptErr>
-    ensures { result ≡ stopped (of_rank (length on.now) kind) }
+    ensures { result ≡ or_refused (of_rank (length on.now) kind) }
 {
-    stopped(of_rank(on.rank(), kind))
+    or_refused(of_rank(on.rank(), kind))
 }
 
 /// All of the elements are there.
-pub fn there_if(all: bool) -> Result<(), Refusal>
+pub(crate) fn there_if(all: bool) -> Result<(), WhyRefused>
     ensures { result ≡ there_if all }
 {
     if all {
         Ok(())
     } else {
-        Err(Refusal::OutOfDomain)
+        Err(WhyRefused::OutOfDomain)
     }
 }
 
 /// Whether a cell is there; it is looked at.
 pub(crate) fn is_present(
     book: &Layered<'_>,
-    footprint: &mut Footprint,
+    footprint: &mut ReadFootprint,
     cell: &Cell,
 ) -> Result<bool, AttemptErr>
     ensures read { OnOk result (footprint.new ≡ footprint.old ++ one_of cell.now ∷ []) }
@@ -138,7 +138,7 @@ fn all_present(book: &Layered<'_>, array: Name, on: &AnyRect) -> bool
 // Whether an array has an element at each index of a rectangle; the footprint keeps that they are looked at.
 fn are_present(
     book: &Layered<'_>,
-    footprint: &mut Footprint,
+    footprint: &mut ReadFootprint,
     array: Name,
     on: &AnyRect,
 ) -> Result<bool, AttemptErr>
@@ -146,7 +146,7 @@ fn are_present(
     ensures present { IfOk result (λ b. b ≡ list_all is_some (map (get book.now.cells) (map (Element array) (indices on.now)))) }
     ensures only { IfErr result (λ e. e ≡ NoMemory) }
 {
-    match footprint.keep_rectangle(&Row::Elements(array), on) {
+    match footprint.keep_rectangle(&IndexedRow::Elements(array), on) {
         Ok(()) => Ok(all_present(book, array, on)),
         Err(_) => Err(AttemptErr::NoMemory),
     }
@@ -162,12 +162,12 @@ pub(crate) fn both_answers(all: bool, here: bool) -> bool
 /// An array's elements at the indices of a rectangle.
 pub(crate) fn all_elements(
     book: &Layered<'_>,
-    footprint: &mut Footprint,
+    footprint: &mut ReadFootprint,
     array: Name,
     on: &AnyRect,
 ) -> Result<(), AttemptErr>
     ensures { Looks (all_elements array (indices on.now)) book.now.cells footprint.old result footprint.new }
 {
     let all = are_present(book, footprint, array, on)?;
-    stopped(there_if(all))
+    or_refused(there_if(all))
 }

@@ -9,27 +9,27 @@ ghost use Rattle.wb_cells.specs.Reads.{one_of};
 ghost use Rattle.wb_edit.specs.Reshaping.{shape_in, absent_if, shape, member_cells, none_there};
 ghost use Rattle.wb_edit.specs.declared.attempt_err.AttemptErr.TheVariants.{NoMemory};
 
-use crate::attempt_err::{AttemptErr, stopped};
-use crate::footprint::Footprint;
+use crate::attempt_err::{AttemptErr, or_refused};
+use crate::footprint::ReadFootprint;
 use crate::looks::one_cell::read;
 use crate::looks::rectangles::is_present;
-use wb_cells::{AnyIndex, AnyRect, Cell, Name, Refusal, Value};
+use wb_cells::{AnyIndex, AnyRect, Cell, Name, Value, WhyRefused};
 use wb_layers::Layered;
 
 /// The ranges that a cell holds; `WrongKind` where it holds none.
-pub fn shape_in(shape: Option<Value>) -> Result<AnyRect, Refusal>
+pub(crate) fn shape_in(shape: Option<Value>) -> Result<AnyRect, WhyRefused>
     ensures { result ≡ shape_in shape }
 {
     match shape {
-        None => Err(Refusal::WrongKind),
+        None => Err(WhyRefused::WrongKind),
         Some(value) => match value {
             Value::Ranges(ranges) => Ok(ranges),
-            Value::Domain(_) => Err(Refusal::WrongKind),
-            Value::Array(_, _) => Err(Refusal::WrongKind),
-            Value::Mapping(_) => Err(Refusal::WrongKind),
-            Value::Present => Err(Refusal::WrongKind),
-            Value::Bound(_) => Err(Refusal::WrongKind),
-            Value::Number(_) => Err(Refusal::WrongKind),
+            Value::Domain(_) => Err(WhyRefused::WrongKind),
+            Value::Array(_, _) => Err(WhyRefused::WrongKind),
+            Value::Mapping(_) => Err(WhyRefused::WrongKind),
+            Value::Present => Err(WhyRefused::WrongKind),
+            Value::Bound(_) => Err(WhyRefused::WrongKind),
+            Value::Number(_) => Err(WhyRefused::WrongKind),
         },
     }
 }
@@ -37,20 +37,20 @@ pub fn shape_in(shape: Option<Value>) -> Result<AnyRect, Refusal>
 /// The ranges of a rectangular domain.
 pub(crate) fn shape(
     book: &Layered<'_>,
-    footprint: &mut Footprint,
+    footprint: &mut ReadFootprint,
     domain: Name,
 ) -> Result<AnyRect, AttemptErr>
     ensures { Looks (shape domain) book.now.cells footprint.old result footprint.new }
 {
     let ranges = read(book, footprint, &Cell::Shape(domain))?;
-    stopped(shape_in(ranges))
+    or_refused(shape_in(ranges))
 }
 
 /// That none of some cells is there; `InUse` where one is.
-pub fn absent_if(any: bool) -> Result<(), Refusal>
+pub(crate) fn absent_if(any: bool) -> Result<(), WhyRefused>
     ensures { result ≡ absent_if any }
 {
-    if any { Err(Refusal::InUse) } else { Ok(()) }
+    if any { Err(WhyRefused::InUse) } else { Ok(()) }
 }
 
 // One of two answers.
@@ -63,7 +63,7 @@ fn either_answer(any: bool, here: bool) -> bool
 // Whether a domain has one of some indices; each of them is looked at.
 fn has_some(
     book: &Layered<'_>,
-    footprint: &mut Footprint,
+    footprint: &mut ReadFootprint,
     domain: Name,
     listed: &[AnyIndex],
 ) -> Result<bool, AttemptErr>
@@ -82,7 +82,7 @@ fn has_some(
 // Whether one of some domains has one of some indices; each index is looked at in each domain.
 fn some_have(
     book: &Layered<'_>,
-    footprint: &mut Footprint,
+    footprint: &mut ReadFootprint,
     domains: &[Name],
     listed: &[AnyIndex],
 ) -> Result<bool, AttemptErr>
@@ -101,12 +101,12 @@ fn some_have(
 /// None of some indices is in one of the domains.
 pub(crate) fn none_there(
     book: &Layered<'_>,
-    footprint: &mut Footprint,
+    footprint: &mut ReadFootprint,
     domains: &[Name],
     listed: &[AnyIndex],
 ) -> Result<(), AttemptErr>
     ensures { Looks (none_there domains.now listed.now) book.now.cells footprint.old result footprint.new }
 {
     let any = some_have(book, footprint, domains, listed)?;
-    stopped(absent_if(any))
+    or_refused(absent_if(any))
 }

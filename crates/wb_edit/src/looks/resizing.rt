@@ -7,56 +7,58 @@ ghost use Rattle.std.specs.Map.{keys_of};
 ghost use Rattle.wb_cells.specs.declared.cells.cell.Cell.TheVariants.{Implicit};
 ghost use Rattle.wb_range.specs.Domain.{IsListedOnce};
 ghost use Rattle.wb_edit.specs.Changed.{items_of};
-ghost use Rattle.wb_edit.specs.Plans.{Looks, cell_at};
+ghost use Rattle.wb_edit.specs.Plans.{Looks};
 ghost use Rattle.wb_cells.specs.Reads.{one_of};
+ghost use Rattle.wb_cells.specs.Runs.{cell_of};
 ghost use Rattle.wb_edit.specs.Resizing.{has_members, inside_if, number_or_zero, zeros, all_in_domain, all_in_parent, implicits, defaults, fills};
 ghost use Rattle.wb_edit.specs.declared.attempt_err.AttemptErr.TheVariants.{NoMemory};
 
-use crate::attempt_err::{AttemptErr, stopped};
-use crate::footprint::Footprint;
-use crate::indexed_cells::{IndexedCells, cell_at};
+use crate::attempt_err::{AttemptErr, or_refused};
+use crate::footprint::ReadFootprint;
 use crate::looks::rectangles::{both_answers, is_present};
 use crate::looks::users::{arrays, uses};
 use std::alloc::{AllocError, Global};
-use wb_cells::{AnyCell, AnyDomain, AnyIndex, Cell, DomainKind, Name, Pattern, Refusal, Value};
+use wb_cells::{
+    AnyCell, AnyDomain, AnyIndex, Cell, DomainKind, IndexedRow, Name, Pattern, Value, WhyRefused,
+};
 use wb_layers::Layered;
 
 /// That a domain is sparse or associative; `WrongKind` where it is rectangular.
-pub fn has_members(kind: &AnyDomain) -> Result<(), Refusal>
+pub(crate) fn has_members(kind: &AnyDomain) -> Result<(), WhyRefused>
     ensures { result ≡ has_members kind.now }
 {
     match kind.domain_kind() {
-        DomainKind::Rectangular(_) => Err(Refusal::WrongKind),
+        DomainKind::Rectangular(_) => Err(WhyRefused::WrongKind),
         DomainKind::Sparse(_, _) => Ok(()),
         DomainKind::Associative(_) => Ok(()),
     }
 }
 
 /// All indices are in the parent; `OutOfParent` where one is not.
-pub fn inside_if(all: bool) -> Result<(), Refusal>
+pub(crate) fn inside_if(all: bool) -> Result<(), WhyRefused>
     ensures { result ≡ inside_if all }
 {
     if all {
         Ok(())
     } else {
-        Err(Refusal::OutOfParent)
+        Err(WhyRefused::OutOfParent)
     }
 }
 
 /// Whether the cells of some indices are all there; each of them is looked at.
 pub(crate) fn are_there(
     book: &Layered<'_>,
-    footprint: &mut Footprint,
-    indexed: &IndexedCells,
+    footprint: &mut ReadFootprint,
+    row: &IndexedRow,
     listed: &[AnyIndex],
 ) -> Result<bool, AttemptErr>
-    ensures read { OnOk result (footprint.new ≡ footprint.old ++ map one_of (map (cell_at indexed.now) listed.now)) }
-    ensures there { IfOk result (λ b. b ≡ list_all is_some (map (get book.now.cells) (map (cell_at indexed.now) listed.now))) }
+    ensures read { OnOk result (footprint.new ≡ footprint.old ++ map one_of (map (cell_of row.now) listed.now)) }
+    ensures there { IfOk result (λ b. b ≡ list_all is_some (map (get book.now.cells) (map (cell_of row.now) listed.now))) }
     ensures only { IfErr result (λ e. e ≡ NoMemory) }
 {
     let mut all = true;
     for index in listed {
-        let here = is_present(book, footprint, &cell_at(indexed, *index))?;
+        let here = is_present(book, footprint, &row.cell(*index))?;
         all = both_answers(all, here);
     }
     Ok(all)
@@ -65,20 +67,20 @@ pub(crate) fn are_there(
 /// All indices are in a rectangular domain.
 fn all_in_domain(
     book: &Layered<'_>,
-    footprint: &mut Footprint,
+    footprint: &mut ReadFootprint,
     parent: Name,
     listed: &[AnyIndex],
 ) -> Result<(), AttemptErr>
     ensures { Looks (all_in_domain parent listed.now) book.now.cells footprint.old result footprint.new }
 {
-    let all = are_there(book, footprint, &IndexedCells::Inside(parent), listed)?;
-    stopped(inside_if(all))
+    let all = are_there(book, footprint, &IndexedRow::Inside(parent), listed)?;
+    or_refused(inside_if(all))
 }
 
 /// The domain may have the indices: if it is sparse, they are in its parent.
 pub(crate) fn all_in_parent(
     book: &Layered<'_>,
-    footprint: &mut Footprint,
+    footprint: &mut ReadFootprint,
     kind: &AnyDomain,
     listed: &[AnyIndex],
 ) -> Result<(), AttemptErr>
@@ -112,7 +114,7 @@ fn number_or_zero(value: Option<Value>) -> i64
 // An array with its implicit value, which is looked at.
 fn with_implicit(
     book: &Layered<'_>,
-    footprint: &mut Footprint,
+    footprint: &mut ReadFootprint,
     array: Name,
 ) -> Result<(Name, i64), AttemptErr>
     ensures read { OnOk result (footprint.new ≡ footprint.old ++ one_of (Implicit array) ∷ []) }
@@ -130,7 +132,7 @@ fn with_implicit(
 fn with_implicits(
     alloc: Global,
     book: &Layered<'_>,
-    footprint: &mut Footprint,
+    footprint: &mut ReadFootprint,
     arrays: &[Name],
 ) -> Result<Vec<(Name, i64)>, AttemptErr>
     ensures read { OnOk result (footprint.new ≡ footprint.old ++ map one_of (map Implicit arrays.now)) }
@@ -167,7 +169,7 @@ pub(crate) fn zeros(alloc: Global, arrays: &[Name]) -> Result<Vec<(Name, i64)>, 
 fn defaults(
     alloc: Global,
     book: &Layered<'_>,
-    footprint: &mut Footprint,
+    footprint: &mut ReadFootprint,
     kind: &AnyDomain,
     arrays: &[Name],
 ) -> Result<Vec<(Name, i64)>, AttemptErr>
@@ -185,7 +187,7 @@ fn defaults(
 pub(crate) fn fills(
     alloc: Global,
     book: &Layered<'_>,
-    footprint: &mut Footprint,
+    footprint: &mut ReadFootprint,
     domain: Name,
     kind: &AnyDomain,
 ) -> Result<Vec<(Name, i64)>, AttemptErr>

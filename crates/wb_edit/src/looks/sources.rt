@@ -11,14 +11,14 @@ ghost use Rattle.wb_edit.specs.declared.attempt_err.AttemptErr.TheVariants.{NoMe
 ghost use Rattle.wb_edit.specs.Sources.{same_rank, slice_of, displacement_of, is_same_type, is_alike, alike, all_fit, names_rectangle, gives_rectangle};
 ghost use Rattle.wb_edit.specs.Sources.{ranges_given, names_set, gives_set, indices_given};
 
-use crate::attempt_err::{AttemptErr, stopped};
-use crate::footprint::Footprint;
+use crate::attempt_err::{AttemptErr, or_refused};
+use crate::footprint::ReadFootprint;
 use crate::looks::indices::members;
 use crate::looks::one_cell::domain_named;
 use crate::looks::rectangles::{both_answers, of_rank};
 use crate::looks::reshaping::shape;
 use std::alloc::Global;
-use wb_cells::{AnyIndex, AnyRect, KeyType, Kind, Name, Point, Refusal};
+use wb_cells::{AnyIndex, AnyRect, KeyType, Kind, Name, Point, WhyRefused};
 use wb_layers::Layered;
 use wb_range::Domain;
 use wb_rect::RectErr;
@@ -27,42 +27,42 @@ use wb_reshape::{Displacement, Operand};
 use wb_sets::Assoc;
 
 /// That there are so many dimensions as a domain of the rank has; `WrongKind` where there are not.
-pub fn same_rank(rank: usize, dimensions: usize) -> Result<(), Refusal>
+pub(crate) fn same_rank(rank: usize, dimensions: usize) -> Result<(), WhyRefused>
     ensures { result ≡ same_rank rank dimensions }
 {
     if dimensions == rank {
         Ok(())
     } else {
-        Err(Refusal::WrongKind)
+        Err(WhyRefused::WrongKind)
     }
 }
 
 /// What two rectangles have in common; `WrongKind` where they are of different ranks.
-pub fn slice_of(old: &AnyRect, by: &AnyRect) -> Result<AnyRect, Refusal>
+pub(crate) fn slice_of(old: &AnyRect, by: &AnyRect) -> Result<AnyRect, WhyRefused>
     ensures { result ≡ slice_of old.now by.now }
 {
     match old.slice(by) {
         Some(new) => Ok(new),
-        None => Err(Refusal::WrongKind),
+        None => Err(WhyRefused::WrongKind),
     }
 }
 
 /// A rectangle displaced by an offset for each dimension; `WrongKind` where the offsets are more or fewer or a range has
 /// another stride than 1, `TooLarge` where it would be outside the limits.
-pub fn displacement_of(
+pub(crate) fn displacement_of(
     how: Displacement,
     offsets: &Point,
     old: &AnyRect,
-) -> Result<AnyRect, Refusal>
+) -> Result<AnyRect, WhyRefused>
     ensures { result ≡ displacement_of how offsets.now old.now }
 {
     if offsets.coordinates().len() != old.rank() as usize {
-        return Err(Refusal::WrongKind);
+        return Err(WhyRefused::WrongKind);
     }
     match displaced(how, offsets, old) {
         Ok(new) => Ok(new),
-        Err(RectErr::Strided) => Err(Refusal::WrongKind),
-        Err(RectErr::TooLarge) => Err(Refusal::TooLarge),
+        Err(RectErr::Strided) => Err(WhyRefused::WrongKind),
+        Err(RectErr::TooLarge) => Err(WhyRefused::TooLarge),
     }
 }
 
@@ -100,13 +100,13 @@ fn is_alike(kind: Kind, other: Kind) -> bool
 }
 
 /// That two domains are both sparse, of one rank, or both associative, of one type; `WrongKind` where they are not.
-pub fn alike(kind: Kind, other: Kind) -> Result<(), Refusal>
+pub(crate) fn alike(kind: Kind, other: Kind) -> Result<(), WhyRefused>
     ensures { result ≡ alike kind other }
 {
     if is_alike(kind, other) {
         Ok(())
     } else {
-        Err(Refusal::WrongKind)
+        Err(WhyRefused::WrongKind)
     }
 }
 
@@ -121,41 +121,41 @@ fn all_keys(kind: Kind, listed: &[AnyIndex]) -> bool
 }
 
 /// That all indices are of the rank or type of the indices of a domain of this kind; `WrongKind` where one is not.
-pub fn all_fit(kind: Kind, listed: &[AnyIndex]) -> Result<(), Refusal>
+pub(crate) fn all_fit(kind: Kind, listed: &[AnyIndex]) -> Result<(), WhyRefused>
     ensures { result ≡ all_fit kind listed.now }
 {
     if all_keys(kind, listed) {
         Ok(())
     } else {
-        Err(Refusal::WrongKind)
+        Err(WhyRefused::WrongKind)
     }
 }
 
 // The name is that of a rectangular domain of the rank.
 fn names_rectangle(
     book: &Layered<'_>,
-    footprint: &mut Footprint,
+    footprint: &mut ReadFootprint,
     rank: u8,
     name: Name,
 ) -> Result<(), AttemptErr>
     ensures { Looks (names_rectangle rank name) book.now.cells footprint.old result footprint.new }
 {
     let kind = domain_named(book, footprint, name)?;
-    stopped(of_rank(rank, kind.kind()))
+    or_refused(of_rank(rank, kind.kind()))
 }
 
 /// A rectangle of the rank is given.
 pub(crate) fn gives_rectangle(
     book: &Layered<'_>,
-    footprint: &mut Footprint,
+    footprint: &mut ReadFootprint,
     rank: u8,
     given: &Operand,
 ) -> Result<(), AttemptErr>
     ensures { Looks (gives_rectangle rank given.now) book.now.cells footprint.old result footprint.new }
 {
     match given {
-        Operand::Rectangle(ranges) => stopped(same_rank(rank as usize, ranges.rank() as usize)),
-        Operand::Items(_) => Err(AttemptErr::Refused(Refusal::WrongKind)),
+        Operand::Rectangle(ranges) => or_refused(same_rank(rank as usize, ranges.rank() as usize)),
+        Operand::Items(_) => Err(AttemptErr::Refused(WhyRefused::WrongKind)),
         Operand::Named(name) => names_rectangle(book, footprint, rank, *name),
     }
 }
@@ -163,14 +163,14 @@ pub(crate) fn gives_rectangle(
 /// The ranges that are given.
 pub(crate) fn ranges_given(
     book: &Layered<'_>,
-    footprint: &mut Footprint,
+    footprint: &mut ReadFootprint,
     given: &Operand,
 ) -> Result<AnyRect, AttemptErr>
     ensures { Looks (ranges_given given.now) book.now.cells footprint.old result footprint.new }
 {
     match given {
         Operand::Rectangle(ranges) => Ok(*ranges),
-        Operand::Items(_) => Err(AttemptErr::Refused(Refusal::WrongKind)),
+        Operand::Items(_) => Err(AttemptErr::Refused(WhyRefused::WrongKind)),
         Operand::Named(name) => shape(book, footprint, *name),
     }
 }
@@ -178,28 +178,28 @@ pub(crate) fn ranges_given(
 // The name is that of a domain like one of the kind.
 fn names_set(
     book: &Layered<'_>,
-    footprint: &mut Footprint,
+    footprint: &mut ReadFootprint,
     kind: Kind,
     name: Name,
 ) -> Result<(), AttemptErr>
     ensures { Looks (names_set kind name) book.now.cells footprint.old result footprint.new }
 {
     let other = domain_named(book, footprint, name)?;
-    stopped(alike(kind, other.kind()))
+    or_refused(alike(kind, other.kind()))
 }
 
 /// A set for a domain of the kind is given.
 pub(crate) fn gives_set(
     book: &Layered<'_>,
-    footprint: &mut Footprint,
+    footprint: &mut ReadFootprint,
     kind: Kind,
     given: &Operand,
 ) -> Result<(), AttemptErr>
     ensures { Looks (gives_set kind given.now) book.now.cells footprint.old result footprint.new }
 {
     match given {
-        Operand::Rectangle(_) => Err(AttemptErr::Refused(Refusal::WrongKind)),
-        Operand::Items(listed) => stopped(all_fit(kind, listed.as_slice())),
+        Operand::Rectangle(_) => Err(AttemptErr::Refused(WhyRefused::WrongKind)),
+        Operand::Items(listed) => or_refused(all_fit(kind, listed.as_slice())),
         Operand::Named(name) => names_set(book, footprint, kind, *name),
     }
 }
@@ -223,7 +223,7 @@ fn listed(alloc: Global, items: &Assoc<AnyIndex>) -> Result<Vec<AnyIndex>, Attem
 pub(crate) fn indices_given(
     alloc: Global,
     book: &Layered<'_>,
-    footprint: &mut Footprint,
+    footprint: &mut ReadFootprint,
     given: &Operand,
 ) -> Result<Vec<AnyIndex>, AttemptErr>
     ensures looks { Looks (indices_given given.now) book.now.cells footprint.old (found_members result) footprint.new }
@@ -231,7 +231,7 @@ pub(crate) fn indices_given(
     ensures ascending { IfOk result (λ v. IsStrictlySortedBy index_cmp v.items) }
 {
     match given {
-        Operand::Rectangle(_) => Err(AttemptErr::Refused(Refusal::WrongKind)),
+        Operand::Rectangle(_) => Err(AttemptErr::Refused(WhyRefused::WrongKind)),
         Operand::Items(items) => listed(alloc, items),
         Operand::Named(name) => members(alloc, book, footprint, *name),
     }

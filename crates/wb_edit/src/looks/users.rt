@@ -10,10 +10,10 @@ ghost use Rattle.wb_edit.specs.Plans.{Looks};
 ghost use Rattle.wb_edit.specs.Users.{binding_in, user_in, named, bound, is_unused, uses, unused};
 ghost use Rattle.wb_edit.specs.declared.attempt_err.AttemptErr.TheVariants.{NoMemory};
 
-use crate::attempt_err::{AttemptErr, stopped};
-use crate::footprint::Footprint;
+use crate::attempt_err::{AttemptErr, or_refused};
+use crate::footprint::ReadFootprint;
 use std::alloc::{AllocError, Global};
-use wb_cells::{Binding, Cell, Name, Pattern, Refusal, Value};
+use wb_cells::{Binding, Cell, Name, Pattern, Value, WhyRefused};
 use wb_layers::Layered;
 
 // How a value says that an object is bound, if it does.
@@ -67,7 +67,7 @@ fn users_in(alloc: Global, shown: &[(Cell, Value)]) -> Result<Vec<(Name, Binding
 pub(crate) fn uses(
     alloc: Global,
     book: &Layered<'_>,
-    footprint: &mut Footprint,
+    footprint: &mut ReadFootprint,
     domain: Name,
 ) -> Result<Vec<(Name, Binding)>, AttemptErr>
     ensures looks { Looks (uses domain) book.now.cells footprint.old (items_of result) footprint.new }
@@ -158,13 +158,13 @@ pub(crate) fn sparse_domains(
 }
 
 /// That nothing is bound to a domain, by what is; `InUse` where something is.
-pub fn is_unused(users: &[(Name, Binding)]) -> Result<(), Refusal>
+pub(crate) fn is_unused(users: &[(Name, Binding)]) -> Result<(), WhyRefused>
     ensures { result ≡ is_unused users.now }
 {
     if users.is_empty() {
         Ok(())
     } else {
-        Err(Refusal::InUse)
+        Err(WhyRefused::InUse)
     }
 }
 
@@ -172,11 +172,11 @@ pub fn is_unused(users: &[(Name, Binding)]) -> Result<(), Refusal>
 pub(crate) fn unused(
     alloc: Global,
     book: &Layered<'_>,
-    footprint: &mut Footprint,
+    footprint: &mut ReadFootprint,
     domain: Name,
 ) -> Result<(), AttemptErr>
     ensures { Looks (unused domain) book.now.cells footprint.old result footprint.new }
 {
     let users = uses(alloc, book, footprint, domain)?;
-    stopped(is_unused(&users))
+    or_refused(is_unused(&users))
 }

@@ -5,7 +5,7 @@ use Rattle.wb_cells.specs.declared.values.index.Index.TheVariants.{Point, Text}
 use Rattle.wb_cells.specs.Layouts.{locale_in}
 use Rattle.wb_dist.specs.Maps.{LayoutMap, locale_count_of}
 use Rattle.wb_elements.specs.declared.piece.Pairs.{Pairs}
-use Rattle.wb_elements.specs.declared.piece.Pairs.TheVariants.{Line, Plane, Solid, Text as Texts}
+use Rattle.wb_elements.specs.declared.piece.Pairs.TheVariants.{Rank1, Rank2, Rank3, Text as Texts}
 use Rattle.wb_elements.specs.Piecewise.Indexed.{indexed}
 
 -- an element after its index lies on a locale by a mapping: at a text on locale 0
@@ -18,7 +18,7 @@ piece_in m es l = if nat_lt l (locale_count_of m) then Some (filter (lies_on m l
 
 -- what is lent
 abbrev pub lent : Pairs → List (Index × ℤ)
-lent (Line s) = indexed Point s.now
-lent (Plane s) = indexed Point s.now
-lent (Solid s) = indexed Point s.now
+lent (Rank1 s) = indexed Point s.now
+lent (Rank2 s) = indexed Point s.now
+lent (Rank3 s) = indexed Point s.now
 lent (Texts s) = indexed Text s.now

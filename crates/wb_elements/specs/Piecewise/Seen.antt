@@ -7,15 +7,15 @@ use Rattle.wb_cells.specs.Kinds.{is_point, is_text}
 use Rattle.wb_cells.specs.Layouts.{is_of_rank}
 use Rattle.wb_cells.specs.Shapes.{indices}
 use Rattle.wb_dist.specs.Maps.{LayoutMap, whole}
-use Rattle.wb_elements.specs.declared.elements.Form.{Form}
-use Rattle.wb_elements.specs.declared.elements.Form.TheVariants.{Line, Plane, Solid, Text as Texts}
+use Rattle.wb_elements.specs.declared.elements.ElementsForm.{ElementsForm}
+use Rattle.wb_elements.specs.declared.elements.ElementsForm.TheVariants.{Rank1, Rank2, Rank3, Text as Texts}
 pub use Rattle.wb_elements.specs.Piecewise.Indexed.{indexed, AllOf}
 
 -- the elements with their indices, the mapping that they lie by, and the rank of the indices: 0 for texts
-abbrev pub seen_of : Form → List (Index × ℤ) × (LayoutMap × ℕ)
-seen_of (Line p) = (indexed Point p.0, (p.1, 1))
-seen_of (Plane p) = (indexed Point p.0, (p.1, 2))
-seen_of (Solid p) = (indexed Point p.0, (p.1, 3))
+abbrev pub seen_of : ElementsForm → List (Index × ℤ) × (LayoutMap × ℕ)
+seen_of (Rank1 p) = (indexed Point p.0, (p.1, 1))
+seen_of (Rank2 p) = (indexed Point p.0, (p.1, 2))
+seen_of (Rank3 p) = (indexed Point p.0, (p.1, 3))
 seen_of (Texts p) = (indexed Text p.0, (whole, 0))
 
 -- an index has so many coordinates, and where they are 0, it is a text
@@ -30,10 +30,10 @@ MayLie m zero = m ≡ whole
 MayLie m (suc n) = (suc n ≤ 3) × (is_of_rank (suc n) m ≡ true)
 
 -- the indices have the form that they are kept in
-abbrev pub IsKept : Form → Type 0
-IsKept (Line p) = AllOf Point (is_point 1) p.0
-IsKept (Plane p) = AllOf Point (is_point 2) p.0
-IsKept (Solid p) = AllOf Point (is_point 3) p.0
+abbrev pub IsKept : ElementsForm → Type 0
+IsKept (Rank1 p) = AllOf Point (is_point 1) p.0
+IsKept (Rank2 p) = AllOf Point (is_point 2) p.0
+IsKept (Rank3 p) = AllOf Point (is_point 3) p.0
 IsKept (Texts p) = AllOf Text is_text p.0
 
 -- the indices are those of the ranges that are known, in their order
@@ -42,6 +42,6 @@ AreRanged None es = Unit {0}
 AreRanged (Some rs) es = keys_of es ≡ indices rs
 
 -- what is kept of the elements of an array
-pub record AreElements (form : Form) (ranges : Option (List (List ℤ))) : Type 0 where
+pub record AreElements (form : ElementsForm) (ranges : Option (List (List ℤ))) : Type 0 where
   pub kept : IsKept form
   pub ranged : AreRanged ranges (seen_of form).0

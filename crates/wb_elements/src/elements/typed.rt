@@ -7,7 +7,7 @@ ghost use Rattle.wb_elements.specs.Piecewise.Indexed.{indexed, AllOf};
 ghost use Rattle.wb_elements.specs.Piecewise.Seen.{seen_of, IsKept};
 ghost use Rattle.wb_cells.specs.declared.values.index.Index.TheVariants.{Point as point_index};
 
-use crate::elements::{Elements, Form, set_in};
+use crate::elements::{Elements, ElementsForm, set_in};
 use std::alloc::Global;
 use wb_arrays::Pieces;
 use wb_cells::AsIndex;
@@ -36,8 +36,10 @@ pub trait PieceKey: AsIndex {
 impl PieceKey for [i64; 1] {
     fn are_set(elements: &Elements, changes: &[([i64; 1], Option<i64>)]) -> bool {
         match &elements.form {
-            Form::Line(pieces) => are_set_in(pieces, changes),
-            Form::Plane(_) | Form::Solid(_) | Form::Text(_) => are_set_by(elements, changes),
+            ElementsForm::Rank1(pieces) => are_set_in(pieces, changes),
+            ElementsForm::Rank2(_) | ElementsForm::Rank3(_) | ElementsForm::Text(_) => are_set_by(
+                elements, changes,
+            ),
         }
     }
 
@@ -51,8 +53,8 @@ impl PieceKey for [i64; 1] {
         changes: &[([i64; 1], Option<i64>)],
     ) -> Result<Vec<([i64; 1], Option<i64>)>, NoMemory> {
         match &elements.form {
-            Form::Line(pieces) => read_all_in(alloc, pieces, changes),
-            Form::Plane(_) | Form::Solid(_) | Form::Text(_) => read_all_by(
+            ElementsForm::Rank1(pieces) => read_all_in(alloc, pieces, changes),
+            ElementsForm::Rank2(_) | ElementsForm::Rank3(_) | ElementsForm::Text(_) => read_all_by(
                 alloc, elements, changes,
             ),
         }
@@ -62,8 +64,10 @@ impl PieceKey for [i64; 1] {
 impl PieceKey for [i64; 2] {
     fn are_set(elements: &Elements, changes: &[([i64; 2], Option<i64>)]) -> bool {
         match &elements.form {
-            Form::Plane(pieces) => are_set_in(pieces, changes),
-            Form::Line(_) | Form::Solid(_) | Form::Text(_) => are_set_by(elements, changes),
+            ElementsForm::Rank2(pieces) => are_set_in(pieces, changes),
+            ElementsForm::Rank1(_) | ElementsForm::Rank3(_) | ElementsForm::Text(_) => are_set_by(
+                elements, changes,
+            ),
         }
     }
 
@@ -77,8 +81,10 @@ impl PieceKey for [i64; 2] {
         changes: &[([i64; 2], Option<i64>)],
     ) -> Result<Vec<([i64; 2], Option<i64>)>, NoMemory> {
         match &elements.form {
-            Form::Plane(pieces) => read_all_in(alloc, pieces, changes),
-            Form::Line(_) | Form::Solid(_) | Form::Text(_) => read_all_by(alloc, elements, changes),
+            ElementsForm::Rank2(pieces) => read_all_in(alloc, pieces, changes),
+            ElementsForm::Rank1(_) | ElementsForm::Rank3(_) | ElementsForm::Text(_) => read_all_by(
+                alloc, elements, changes,
+            ),
         }
     }
 }
@@ -86,8 +92,10 @@ impl PieceKey for [i64; 2] {
 impl PieceKey for [i64; 3] {
     fn are_set(elements: &Elements, changes: &[([i64; 3], Option<i64>)]) -> bool {
         match &elements.form {
-            Form::Solid(pieces) => are_set_in(pieces, changes),
-            Form::Line(_) | Form::Plane(_) | Form::Text(_) => are_set_by(elements, changes),
+            ElementsForm::Rank3(pieces) => are_set_in(pieces, changes),
+            ElementsForm::Rank1(_) | ElementsForm::Rank2(_) | ElementsForm::Text(_) => are_set_by(
+                elements, changes,
+            ),
         }
     }
 
@@ -101,51 +109,53 @@ impl PieceKey for [i64; 3] {
         changes: &[([i64; 3], Option<i64>)],
     ) -> Result<Vec<([i64; 3], Option<i64>)>, NoMemory> {
         match &elements.form {
-            Form::Solid(pieces) => read_all_in(alloc, pieces, changes),
-            Form::Line(_) | Form::Plane(_) | Form::Text(_) => read_all_by(alloc, elements, changes),
+            ElementsForm::Rank3(pieces) => read_all_in(alloc, pieces, changes),
+            ElementsForm::Rank1(_) | ElementsForm::Rank2(_) | ElementsForm::Text(_) => read_all_by(
+                alloc, elements, changes,
+            ),
         }
     }
 }
 
-fn set_line(form: &mut Form, changes: &[([i64; 1], Option<i64>)])
+fn set_line(form: &mut ElementsForm, changes: &[([i64; 1], Option<i64>)])
     requires { IsKept form.old }
     ensures elements { (seen_of form.new).0 ≡ with_all point_index (seen_of form.old).0 changes.now }
     ensures mapping { (seen_of form.new).1 ≡ (seen_of form.old).1 }
     ensures kept { IsKept form.new }
 {
     match form {
-        Form::Line(pieces) => set_all_in(pieces, changes),
-        Form::Plane(pieces) => set_others_in(pieces, changes),
-        Form::Solid(pieces) => set_others_in(pieces, changes),
-        Form::Text(pieces) => set_others_in(pieces, changes),
+        ElementsForm::Rank1(pieces) => set_all_in(pieces, changes),
+        ElementsForm::Rank2(pieces) => set_others_in(pieces, changes),
+        ElementsForm::Rank3(pieces) => set_others_in(pieces, changes),
+        ElementsForm::Text(pieces) => set_others_in(pieces, changes),
     }
 }
 
-fn set_plane(form: &mut Form, changes: &[([i64; 2], Option<i64>)])
+fn set_plane(form: &mut ElementsForm, changes: &[([i64; 2], Option<i64>)])
     requires { IsKept form.old }
     ensures elements { (seen_of form.new).0 ≡ with_all point_index (seen_of form.old).0 changes.now }
     ensures mapping { (seen_of form.new).1 ≡ (seen_of form.old).1 }
     ensures kept { IsKept form.new }
 {
     match form {
-        Form::Line(pieces) => set_others_in(pieces, changes),
-        Form::Plane(pieces) => set_all_in(pieces, changes),
-        Form::Solid(pieces) => set_others_in(pieces, changes),
-        Form::Text(pieces) => set_others_in(pieces, changes),
+        ElementsForm::Rank1(pieces) => set_others_in(pieces, changes),
+        ElementsForm::Rank2(pieces) => set_all_in(pieces, changes),
+        ElementsForm::Rank3(pieces) => set_others_in(pieces, changes),
+        ElementsForm::Text(pieces) => set_others_in(pieces, changes),
     }
 }
 
-fn set_solid(form: &mut Form, changes: &[([i64; 3], Option<i64>)])
+fn set_solid(form: &mut ElementsForm, changes: &[([i64; 3], Option<i64>)])
     requires { IsKept form.old }
     ensures elements { (seen_of form.new).0 ≡ with_all point_index (seen_of form.old).0 changes.now }
     ensures mapping { (seen_of form.new).1 ≡ (seen_of form.old).1 }
     ensures kept { IsKept form.new }
 {
     match form {
-        Form::Line(pieces) => set_others_in(pieces, changes),
-        Form::Plane(pieces) => set_others_in(pieces, changes),
-        Form::Solid(pieces) => set_all_in(pieces, changes),
-        Form::Text(pieces) => set_others_in(pieces, changes),
+        ElementsForm::Rank1(pieces) => set_others_in(pieces, changes),
+        ElementsForm::Rank2(pieces) => set_others_in(pieces, changes),
+        ElementsForm::Rank3(pieces) => set_all_in(pieces, changes),
+        ElementsForm::Text(pieces) => set_others_in(pieces, changes),
     }
 }
 
@@ -161,7 +171,7 @@ where
 {
     match change.1 {
         Some(_) => {
-            let (found, place) = pieces.get_near(change.0, near);
+            let (found, place) = pieces.get_from(change.0, near);
             (found.is_some(), place)
         }
         None => (false, near),
@@ -202,7 +212,7 @@ fn are_set_by<I: AsIndex>(elements: &Elements, changes: &[(I, Option<i64>)]) -> 
 fn sets_by<I: AsIndex>(elements: &Elements, change: &(I, Option<i64>)) -> bool
     ensures { result ≡ sets_one I.as_index (element_at elements.now.0) change.now }
 {
-    let (found, _) = elements.get_near(&change.0.any(), 0);
+    let (found, _) = elements.get_from(&change.0.any(), 0);
     change.1.is_some() && found.is_some()
 }
 
@@ -288,7 +298,7 @@ where
     D::Index: AsIndex,
     ensures { result.0 ≡ read_one D.Index.as_index (element_at (indexed D.Index.as_index pieces.now.0)) change.now }
 {
-    let (found, place) = pieces.get_near(change.0, near);
+    let (found, place) = pieces.get_from(change.0, near);
     ((change.0, found), place)
 }
 
@@ -333,6 +343,6 @@ fn read_all_by<I: AsIndex>(
 fn read_by<I: AsIndex>(elements: &Elements, change: &(I, Option<i64>)) -> (I, Option<i64>)
     ensures { result ≡ read_one I.as_index (element_at elements.now.0) change.now }
 {
-    let (number, _) = elements.get_near(&change.0.any(), 0);
+    let (number, _) = elements.get_from(&change.0.any(), 0);
     (change.0, number)
 }

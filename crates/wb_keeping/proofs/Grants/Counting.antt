@@ -8,10 +8,10 @@ use Rattle.wb_kept.specs.Runs.{Leads}
 use Rattle.wb_cells.specs.Schema.{workbook}
 use Rattle.wb_edit.specs.declared.edit.Edit.{Edit}
 use Rattle.wb_history.specs.Past.{Numbered, Past, meant, entry_at, set_force, force_of}
-use Rattle.wb_log.specs.declared.refusal.Refusal.{Refusal}
-use Rattle.wb_protocol.specs.Requests.{request}
-use Rattle.wb_protocol.specs.declared.requests.request.Request.{Request}
-use Rattle.wb_protocol.specs.declared.requests.request.Request.TheVariants.{Change, Undo, Redo}
+use Rattle.wb_edit.specs.declared.refusal.Refusal.{Refusal}
+use Rattle.wb_requests.specs.Requests.{request}
+use Rattle.wb_requests.specs.declared.requests.request.Request.{Request}
+use Rattle.wb_requests.specs.declared.requests.request.Request.TheVariants.{Change, Undo, Redo}
 use Rattle.wb_keeping.specs.Granting.Granting.{GrantsRequest, GrantsAsked, edits_of, edit_asked, edits_asked}
 use Rattle.wb_keeping.specs.Granting.Leading.{asked_one}
 

@@ -3,19 +3,19 @@ use Rattle.std.proofs.Common.{◌≡◌, inl, inr, ℕ, Bool, if◌then◌else�
 use Rattle.serde_json.specs.Read.{read}
 use Rattle.wb_kept.specs.Runs.{Leads}
 use Rattle.wb_history.specs.Past.{Numbered, Past}
-use Rattle.wb_log.specs.declared.refusal.Refusal.{Refusal}
-use Rattle.wb_log.specs.declared.refusal.Refusal.TheVariants.{BadRequest}
-use Rattle.wb_protocol.specs.Machine.{StepIfRead}
-use Rattle.wb_protocol.specs.Replies.{reply_of}
-use Rattle.wb_protocol.specs.Requests.{request, request_of, of_json}
-use Rattle.wb_protocol.specs.declared.replies.reply.Reply.{Reply}
-use Rattle.wb_protocol.specs.declared.replies.reply.Reply.TheVariants.{Edited, Undone, Redone}
-use Rattle.wb_protocol.specs.declared.requests.request.Request.{Request}
-use Rattle.wb_protocol.specs.declared.requests.request.Request.TheVariants.{Change, Undo, Redo}
-use Rattle.wb_protocol.specs.Histories.Text.{history_text, AreSaid, AreAsked}
-use Rattle.wb_protocol.proofs.HistoryTexts.Same as same
-use Rattle.wb_protocol.proofs.HistoryTexts.KeptAsked.{keeps_asked}
-use Rattle.wb_protocol.specs.Wire.Encoded.{request_line}
+use Rattle.wb_edit.specs.declared.refusal.Refusal.{Refusal}
+use Rattle.wb_edit.specs.declared.refusal.Refusal.TheVariants.{BadRequest}
+use Rattle.wb_requests.specs.Requests.{request, request_of, of_json}
+use Rattle.wb_requests.specs.declared.requests.request.Request.{Request}
+use Rattle.wb_requests.specs.declared.requests.request.Request.TheVariants.{Change, Undo, Redo}
+use Rattle.wb_requests.specs.Wire.Encoded.{request_line}
+use Rattle.wb_machine.specs.Machine.{StepIfRead}
+use Rattle.wb_machine.specs.Replies.{reply_of}
+use Rattle.wb_machine.specs.declared.replies.reply.Reply.{Reply}
+use Rattle.wb_machine.specs.declared.replies.reply.Reply.TheVariants.{Edited, Undone, Redone}
+use Rattle.wb_machine.specs.Histories.Text.{history_text, AreSaid, AreAsked}
+use Rattle.wb_machine.proofs.HistoryTexts.Same as same
+use Rattle.wb_machine.proofs.HistoryTexts.KeptAsked.{keeps_asked}
 use Rattle.wb_keeping.specs.Granting.Granting.{GrantsRequest, GrantsAsked, Grants, Begins, no_edit, resume_data}
 
 -- ---- it is no request

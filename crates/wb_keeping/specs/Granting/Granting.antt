@@ -8,17 +8,17 @@ use Rattle.wb_kept.specs.Runs.{Leads}
 use Rattle.wb_edit.specs.declared.edit.Edit.{Edit}
 use Rattle.wb_history.specs.Past.{Numbered, Past}
 use Rattle.wb_history.specs.Restored.{IsCounted}
-use Rattle.wb_log.specs.declared.refusal.Refusal.{Refusal}
-use Rattle.wb_log.specs.declared.refusal.Refusal.TheVariants.{BadRequest}
-use Rattle.wb_protocol.specs.Machine.{Changes, UndoesNumber, Redoes, StepIfRead, NothingDone}
-use Rattle.wb_protocol.specs.Replies.{reply_of}
-use Rattle.wb_protocol.specs.Requests.{request}
-use Rattle.wb_protocol.specs.declared.replies.reply.Reply.{Reply}
-use Rattle.wb_protocol.specs.declared.replies.reply.Reply.TheVariants.{Edited, Undone, Cascaded, Redone}
-use Rattle.wb_protocol.specs.declared.requests.request.Request.{Request}
-use Rattle.wb_protocol.specs.declared.requests.request.Request.TheVariants.{Change, Undo, Redo}
-use Rattle.wb_protocol.specs.Histories.Text.{history_text, AreAsked, IsHistory}
-use Rattle.wb_protocol.specs.Wire.Encoded.{request_line}
+use Rattle.wb_edit.specs.declared.refusal.Refusal.{Refusal}
+use Rattle.wb_edit.specs.declared.refusal.Refusal.TheVariants.{BadRequest}
+use Rattle.wb_requests.specs.Requests.{request}
+use Rattle.wb_requests.specs.declared.requests.request.Request.{Request}
+use Rattle.wb_requests.specs.declared.requests.request.Request.TheVariants.{Change, Undo, Redo}
+use Rattle.wb_requests.specs.Wire.Encoded.{request_line}
+use Rattle.wb_machine.specs.Machine.{Changes, UndoesNumber, Redoes, StepIfRead, NothingDone}
+use Rattle.wb_machine.specs.Replies.{reply_of}
+use Rattle.wb_machine.specs.declared.replies.reply.Reply.{Reply}
+use Rattle.wb_machine.specs.declared.replies.reply.Reply.TheVariants.{Edited, Undone, Cascaded, Redone}
+use Rattle.wb_machine.specs.Histories.Text.{history_text, AreAsked, IsHistory}
 
 -- the history before any change
 abbrev pub no_edit : Past

@@ -2,7 +2,7 @@
 use Rattle.std.proofs.Common.{◌≡◌, ◌≢◌, inl, inr, ℕ, zero, suc, ◌+◌, ◌-◌, ◌^◌, List, [], ◌∷◌, ◌++◌, Some, None, Result, Ok, Err, refl, sym, ◌∙◌, ap, subst, arith, slice_get}
 use Rattle.std.specs.Prelude.{min}
 use Rattle.selective_undo.specs.History.{Entry, undo, traces, CanUndoAll, Has}
-use Rattle.wb_cells.specs.Cells.{count_of, written_more}
+use Rattle.wb_cells.specs.Cells.{count_of, saturating_add}
 use Rattle.wb_log.proofs.Granted.{undo_meant}
 use Rattle.wb_log.proofs.Undoings.{capped}
 use Rattle.wb_log.specs.Replies.{UndoReply, ByNumber}
@@ -14,16 +14,16 @@ use Rattle.wb_cells.specs.Schema.{workbook}
 use Rattle.wb_edit.specs.declared.edit.Edit.{Edit}
 use Rattle.wb_history.specs.Past.{Numbered, Past, meant}
 use Rattle.wb_history.specs.Restored.{cells_written}
-use Rattle.wb_log.specs.declared.refusal.Refusal.{Refusal}
-use Rattle.wb_log.specs.declared.refusal.Refusal.TheVariants.{NoMemory}
-use Rattle.wb_history.specs.declared.query.Query.{Query}
+use Rattle.wb_edit.specs.declared.refusal.Refusal.{Refusal}
+use Rattle.wb_edit.specs.declared.refusal.Refusal.TheVariants.{NoMemory}
+use Rattle.wb_edit.specs.declared.query.Query.{Query}
 use Rattle.wb_kept.specs.Runs.{Leads}
-use Rattle.wb_protocol.specs.Machine.{Changes, UndoesNumber, UndoesLatest, Redoes, Cascades, ListsDependents, Answers as AnswersQuery, Prints, PrintsHistory, PrintsFrom, Counts, Explains, Step, StepIfRead}
-use Rattle.wb_protocol.specs.Requests.{request}
-use Rattle.wb_protocol.specs.declared.replies.reply.Reply.{Reply}
-use Rattle.wb_protocol.specs.declared.replies.reply.Reply.TheVariants.{Edited, Undone, Cascaded, Redone, Listed, Answered, Printed, PrintedFrom, Counted, Explained, Refused}
-use Rattle.wb_protocol.specs.declared.requests.request.Request.{Request}
-use Rattle.wb_protocol.specs.declared.requests.request.Request.TheVariants.{Change, Undo, Redo, Cascade, Dependents, Ask, Print, History, Edits, Explain}
+use Rattle.wb_requests.specs.Requests.{request}
+use Rattle.wb_requests.specs.declared.requests.request.Request.{Request}
+use Rattle.wb_requests.specs.declared.requests.request.Request.TheVariants.{Change, Undo, Redo, Cascade, Dependents, Ask, Print, History, Edits, Explain}
+use Rattle.wb_machine.specs.Machine.{Changes, UndoesNumber, UndoesLatest, Redoes, Cascades, ListsDependents, Answers as AnswersQuery, Prints, PrintsHistory, PrintsFrom, Counts, Explains, Step, StepIfRead}
+use Rattle.wb_machine.specs.declared.replies.reply.Reply.{Reply}
+use Rattle.wb_machine.specs.declared.replies.reply.Reply.TheVariants.{Edited, Undone, Cascaded, Redone, Listed, Answered, Printed, PrintedFrom, Counted, Explained, Refused}
 use Rattle.wb_keeping.specs.Granting.Granting.{GrantsRequest, GrantsAsked, Grants, Answers, AreLinesOf, undos_of, changes_made}
 use Rattle.wb_keeping.specs.Granting.Beginning.{never_both, begun_one}
 
@@ -42,15 +42,15 @@ granted_one : (p : Past) (asked : Request) (q u : Past) → GrantsRequest p aske
 granted_one p (Change e) q u (k, n, (reply, added)) (j, m, (other, also)) =
     let same : ◌≡◌ {A = Result (ℕ × ℕ) Refusal} (Ok (k, n)) (Ok (j, m)) = edit_answer_law (meant p.entries) (meaning e) (Ok (k, n)) (Ok (j, m)) reply other ok_not ok_not in
     let counts : n ≡ m = cc in
-    past_same q u (added.entries ∙ sym also.entries) (added.writes ∙ ap (λ (c : ℕ). written_more p.writes c) counts ∙ sym also.writes)
+    past_same q u (added.entries ∙ sym also.entries) (added.writes ∙ ap (λ (c : ℕ). saturating_add p.writes c) counts ∙ sym also.writes)
 granted_one p (Undo (Some k)) q u (n, (is, reply, out)) (m, (same_is, other, also)) =
     let same : Ok n ≡ Ok m = undo_answer_law (meant p.entries) k (Ok n) (Ok m) reply other ok_not ok_not in
     let counts : n ≡ m = cc in
-    past_same q u (out.entries ∙ sym also.entries) (out.writes ∙ ap (λ (c : ℕ). written_more p.writes c) counts ∙ sym also.writes)
+    past_same q u (out.entries ∙ sym also.entries) (out.writes ∙ ap (λ (c : ℕ). saturating_add p.writes c) counts ∙ sym also.writes)
 granted_one p (Redo k) q u (n, (is, reply, put)) (m, (same_is, other, also)) =
     let same : Ok n ≡ Ok m = redo_answer_law (meant p.entries) k (Ok n) (Ok m) reply other ok_not ok_not in
     let counts : n ≡ m = cc in
-    past_same q u (put.entries ∙ sym also.entries) (put.writes ∙ ap (λ (c : ℕ). written_more p.writes c) counts ∙ sym also.writes)
+    past_same q u (put.entries ∙ sym also.entries) (put.writes ∙ ap (λ (c : ℕ). saturating_add p.writes c) counts ∙ sym also.writes)
 granted_one p asked q u granted other = absurd granted
 
 pub asked_one : (p : Past) (line : List ℕ) (q u : Past) → GrantsAsked p line q → GrantsAsked p line u → q ≡ u
@@ -65,7 +65,7 @@ one_history p line q u (inl granted) (inr begun) = absurd (never_both p line q u
 one_history p line q u (inr begun) (inl other) = absurd (never_both p line u q other begun.1)
 one_history p line q u (inr begun) (inr other) =
     let entries = begun_one line q u begun.1 other.1 in
-    past_same q u entries (begun.1.counted ∙ ap (λ (es : List Numbered). written_more 0 (cells_written (traces (meant es)))) entries ∙ sym other.1.counted)
+    past_same q u entries (begun.1.counted ∙ ap (λ (es : List Numbered). saturating_add 0 (cells_written (traces (meant es)))) entries ∙ sym other.1.counted)
 
 -- ---- one line or none
 
@@ -80,7 +80,7 @@ one_made p q asked (line ∷ other ∷ more) granted lines = absurd lines.1
 
 -- ---- an undo with dependents, as the undos of all
 
-more_written : (w c n : ℕ) → written_more (written_more w c) n ≡ written_more w (c + n)
+more_written : (w c n : ℕ) → saturating_add (saturating_add w c) n ≡ saturating_add w (c + n)
 more_written w c n =
     let m = 2 ^ 128 - 1 in
     let sum : (w + c) + n ≡ w + (c + n) = omega arith in
@@ -90,9 +90,9 @@ by_number : (h : List (Entry workbook)) (n m : ℕ) → n ≢ 0 → UndoReply h 
 by_number h zero m some back = absurd (some refl)
 by_number h (suc k) m some back = let here : suc k - 1 ≡ k = omega arith in subst (λ (j : ℕ). UndoReply h j (Ok m)) here back
 
-risen_rest : (ns : List ℕ) (h : List (Entry workbook)) (w c v : ℕ) → v ≡ written_more w (c + set_back h (places ns)) →
-    IsRisen ns (written_more w c) (set_back h (places ns)) v
-risen_rest [] h w c v is = let none : c + 0 ≡ c = omega arith in is ∙ ap (λ (k : ℕ). written_more w k) none
+risen_rest : (ns : List ℕ) (h : List (Entry workbook)) (w c v : ℕ) → v ≡ saturating_add w (c + set_back h (places ns)) →
+    IsRisen ns (saturating_add w c) (set_back h (places ns)) v
+risen_rest [] h w c v is = let none : c + 0 ≡ c = omega arith in is ∙ ap (λ (k : ℕ). saturating_add w k) none
 risen_rest (n ∷ ns) h w c v is = is ∙ sym (more_written w c (set_back h (places (n ∷ ns))))
 
 undos_lead : (ns : List ℕ) (p q : Past) (made : List (List ℕ)) → ((n : ℕ) → Has ns n → n ≢ 0) → CanUndoAll (meant p.entries) (places ns) →
@@ -104,7 +104,7 @@ undos_lead (n ∷ ns) p q (line ∷ made) some can entries writes lines =
     let t = can.0.0 in
     let may = can.0.1 in
     let c = count_of t.before in
-    let next : Past = record { entries = out_of_force (n - 1) p.entries; writes = written_more p.writes c } in
+    let next : Past = record { entries = out_of_force (n - 1) p.entries; writes = saturating_add p.writes c } in
     let same : undo (n - 1) (meant p.entries) ≡ meant next.entries = undo_meant (n - 1) p.entries in
     let cells : touched (slice_get (traces (meant p.entries)) (n - 1)) ≡ c = ap touched may.in_force in
     let rest : set_back (undo (n - 1) (meant p.entries)) (places ns) ≡ set_back (meant next.entries) (places ns) = ap (λ h. set_back h (places ns)) same in
@@ -115,7 +115,7 @@ undos_lead (n ∷ ns) p q (line ∷ made) some can entries writes lines =
       next,
       inl (Undo (Some n), lines.0.read_back, granted),
       undos_lead ns next q made (λ m has. some m (inr has)) (subst (λ h. CanUndoAll h (places ns)) same can.1) entries
-          (risen_rest ns (meant next.entries) p.writes c q.writes (writes ∙ ap (λ (k : ℕ). written_more p.writes k) all)) lines.1,
+          (risen_rest ns (meant next.entries) p.writes c q.writes (writes ∙ ap (λ (k : ℕ). saturating_add p.writes k) all)) lines.1,
     )
 
 has_front : (ns left : List ℕ) (n : ℕ) → Has ns n → Has (ns ++ left) n
@@ -123,7 +123,7 @@ has_front [] left n has = absurd has
 has_front (m ∷ ns) left n (inl here) = inl here
 has_front (m ∷ ns) left n (inr more) = inr (has_front ns left n more)
 
-risen_all : (ns : List ℕ) (w c v : ℕ) → ns ≢ [] → v ≡ written_more w c → IsRisen ns w c v
+risen_all : (ns : List ℕ) (w c v : ℕ) → ns ≢ [] → v ≡ saturating_add w c → IsRisen ns w c v
 risen_all [] w c v some is = absurd (some refl)
 risen_all (n ∷ ns) w c v some is = is
 

@@ -14,7 +14,7 @@ use Rattle.wb_literals.specs.declared.range.Stride.{Stride}
 use Rattle.wb_literals.specs.declared.range.Upper.{Upper}
 use Rattle.wb_literals.specs.declared.range.Upper.TheVariants.{To, Below, Count}
 use Rattle.wb_literals.specs.declared.rectangle.RectangleLiteral.{RectangleLiteral}
-use Rattle.wb_literals.specs.declared.rectangle.RectangleLiteral.TheVariants.{Line, Plane, Solid}
+use Rattle.wb_literals.specs.declared.rectangle.RectangleLiteral.TheVariants.{Rank1, Rank2, Rank3}
 use Rattle.wb_literals.specs.declared.limits.limit.LimitErr.{LimitErr}
 use Rattle.wb_literals.specs.declared.limits.limit.LimitErr.TheVariants.{TooLarge}
 
@@ -69,14 +69,14 @@ rectangle_within rs = if nat_le (length (product rs)) 65536 then Ok rs else Err 
 
 -- the domain that a literal stands for, within all limits
 abbrev pub domain_within : RectangleLiteral → Result (List Range) LimitErr
-domain_within (Line r) = do
+domain_within (Rank1 r) = do
   a ← range_of r
   rectangle_within (a ∷ [])
-domain_within (Plane r s) = do
+domain_within (Rank2 r s) = do
   a ← range_of r
   b ← range_of s
   rectangle_within (a ∷ b ∷ [])
-domain_within (Solid r s t) = do
+domain_within (Rank3 r s t) = do
   a ← range_of r
   b ← range_of s
   c ← range_of t

@@ -19,9 +19,9 @@ coordinates_of (Triple i j k) = i ∷ j ∷ k ∷ []
 
 -- how many locales a literal spells along each dimension
 abbrev pub counts_of : GridLiteral → List ℤ
-counts_of (grids.Line n) = n ∷ []
-counts_of (grids.Plane n m) = n ∷ m ∷ []
-counts_of (grids.Solid n m l) = n ∷ m ∷ l ∷ []
+counts_of (grids.Rank1 n) = n ∷ []
+counts_of (grids.Rank2 n m) = n ∷ m ∷ []
+counts_of (grids.Rank3 n m l) = n ∷ m ∷ l ∷ []
 
 -- coordinates, if there are so many
 abbrev pub of_rank : ℕ → List ℤ → Result (List ℤ) LimitErr

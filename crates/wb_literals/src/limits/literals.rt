@@ -74,16 +74,16 @@ pub fn domain_within(literal: &RectangleLiteral) -> Result<AnyRect, LimitErr>
     ensures { result ≡ domain_within literal.now }
 {
     match literal {
-        RectangleLiteral::Line(first) => {
+        RectangleLiteral::Rank1(first) => {
             let first = range_of(first)?;
             rectangle_within(&[first])
         }
-        RectangleLiteral::Plane(first, second) => {
+        RectangleLiteral::Rank2(first, second) => {
             let first = range_of(first)?;
             let second = range_of(second)?;
             rectangle_within(&[first, second])
         }
-        RectangleLiteral::Solid(first, second, third) => {
+        RectangleLiteral::Rank3(first, second, third) => {
             let first = range_of(first)?;
             let second = range_of(second)?;
             let third = range_of(third)?;

@@ -106,9 +106,9 @@ fn line_blocks(bounds: Rect<1>, grid: &GridLiteral) -> Result<AnyLayout, LimitEr
     // For the proof: the box is a rectangle of rank 1.
     let _kept = bounds.rank();
     match grid {
-        GridLiteral::Line(n) => Ok(AnyLayout::line(block_layout(bounds, [*n])?)),
-        GridLiteral::Plane(_, _) => Err(LimitErr::BadMapping),
-        GridLiteral::Solid(_, _, _) => Err(LimitErr::BadMapping),
+        GridLiteral::Rank1(n) => Ok(AnyLayout::line(block_layout(bounds, [*n])?)),
+        GridLiteral::Rank2(_, _) => Err(LimitErr::BadMapping),
+        GridLiteral::Rank3(_, _, _) => Err(LimitErr::BadMapping),
     }
 }
 
@@ -119,9 +119,9 @@ fn plane_blocks(bounds: Rect<2>, grid: &GridLiteral) -> Result<AnyLayout, LimitE
     // For the proof: the box is a rectangle of rank 2.
     let _kept = bounds.rank();
     match grid {
-        GridLiteral::Line(_) => Err(LimitErr::BadMapping),
-        GridLiteral::Plane(n, m) => Ok(AnyLayout::plane(block_layout(bounds, [*n, *m])?)),
-        GridLiteral::Solid(_, _, _) => Err(LimitErr::BadMapping),
+        GridLiteral::Rank1(_) => Err(LimitErr::BadMapping),
+        GridLiteral::Rank2(n, m) => Ok(AnyLayout::plane(block_layout(bounds, [*n, *m])?)),
+        GridLiteral::Rank3(_, _, _) => Err(LimitErr::BadMapping),
     }
 }
 
@@ -132,9 +132,9 @@ fn solid_blocks(bounds: Rect<3>, grid: &GridLiteral) -> Result<AnyLayout, LimitE
     // For the proof: the box is a rectangle of rank 3.
     let _kept = bounds.rank();
     match grid {
-        GridLiteral::Line(_) => Err(LimitErr::BadMapping),
-        GridLiteral::Plane(_, _) => Err(LimitErr::BadMapping),
-        GridLiteral::Solid(n, m, l) => Ok(AnyLayout::solid(block_layout(bounds, [*n, *m, *l])?)),
+        GridLiteral::Rank1(_) => Err(LimitErr::BadMapping),
+        GridLiteral::Rank2(_, _) => Err(LimitErr::BadMapping),
+        GridLiteral::Rank3(n, m, l) => Ok(AnyLayout::solid(block_layout(bounds, [*n, *m, *l])?)),
     }
 }
 
@@ -143,16 +143,16 @@ fn blocks_of(bounds: &RectangleLiteral, grid: &GridLiteral) -> Result<AnyLayout,
     ensures { result ≡ mapping_within (MappingLiteral.Block bounds.now grid.now) }
 {
     match bounds {
-        RectangleLiteral::Line(first) => {
+        RectangleLiteral::Rank1(first) => {
             let first = range_of(first)?;
             line_blocks(rectangle([first])?, grid)
         }
-        RectangleLiteral::Plane(first, second) => {
+        RectangleLiteral::Rank2(first, second) => {
             let first = range_of(first)?;
             let second = range_of(second)?;
             plane_blocks(rectangle([first, second])?, grid)
         }
-        RectangleLiteral::Solid(first, second, third) => {
+        RectangleLiteral::Rank3(first, second, third) => {
             let first = range_of(first)?;
             let second = range_of(second)?;
             let third = range_of(third)?;
@@ -166,9 +166,9 @@ fn cyclic_of(start: &IndexLiteral, grid: &GridLiteral) -> Result<AnyLayout, Limi
     ensures { result ≡ dealt (coordinates_of start.now) (counts_of grid.now) }
 {
     match grid {
-        GridLiteral::Line(n) => Ok(AnyLayout::line(cyclic_layout(single(start)?, [*n])?)),
-        GridLiteral::Plane(n, m) => Ok(AnyLayout::plane(cyclic_layout(pair(start)?, [*n, *m])?)),
-        GridLiteral::Solid(n, m, l) => {
+        GridLiteral::Rank1(n) => Ok(AnyLayout::line(cyclic_layout(single(start)?, [*n])?)),
+        GridLiteral::Rank2(n, m) => Ok(AnyLayout::plane(cyclic_layout(pair(start)?, [*n, *m])?)),
+        GridLiteral::Rank3(n, m, l) => {
             Ok(AnyLayout::solid(cyclic_layout(triple(start)?, [*n, *m, *l])?))
         }
     }
@@ -183,15 +183,15 @@ fn block_cyclic_of(
     ensures { result ≡ dealt_in_blocks (coordinates_of start.now) (coordinates_of size.now) (counts_of grid.now) }
 {
     match grid {
-        GridLiteral::Line(n) => {
+        GridLiteral::Rank1(n) => {
             let layout = block_cyclic_layout(single(start)?, single(size)?, [*n])?;
             Ok(AnyLayout::line(layout))
         }
-        GridLiteral::Plane(n, m) => {
+        GridLiteral::Rank2(n, m) => {
             let layout = block_cyclic_layout(pair(start)?, pair(size)?, [*n, *m])?;
             Ok(AnyLayout::plane(layout))
         }
-        GridLiteral::Solid(n, m, l) => {
+        GridLiteral::Rank3(n, m, l) => {
             let layout = block_cyclic_layout(triple(start)?, triple(size)?, [*n, *m, *l])?;
             Ok(AnyLayout::solid(layout))
         }

@@ -13,7 +13,7 @@ use crate::entry::{LentFootprint, Record};
 use crate::sweep::needing;
 use std::alloc::Global;
 use wb_cells::Changes;
-use wb_edit::Footprint;
+use wb_edit::ReadFootprint;
 use wb_footprints::FootIndex;
 use wb_range::NoMemory;
 
@@ -94,7 +94,7 @@ impl ByFootprint {
         &mut self,
         entries: &[Record],
         at: usize,
-        read: &Footprint,
+        read: &ReadFootprint,
         delta: &Changes,
     ) -> Option<u64>
         requires in_log { at < length entries.now }

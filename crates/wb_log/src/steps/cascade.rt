@@ -2,7 +2,7 @@
 
 ghost use Rattle.std.specs.Prelude.{◌≡◌, ◌<◌, ◌≤◌, ◌^◌, true, false, length, take, Ok, Err, OnErr, IfOk, IfErr};
 ghost use Rattle.selective_undo.specs.History.{CanUndoAll};
-ghost use Rattle.wb_cells.specs.Cells.{written_more};
+ghost use Rattle.wb_cells.specs.Cells.{saturating_add};
 ghost use Rattle.wb_log.specs.Cascades.{DependentsReply, CascadeReply, AreUndone, OthersStay, OtherCellsStay, all_out_of_force, places, set_back};
 ghost use Rattle.wb_log.specs.Indexed.{IsIndexed};
 ghost use Rattle.wb_log.specs.Kept.{Shows, IsShown, entries_meant, numbered_entries};
@@ -11,10 +11,10 @@ ghost use Rattle.wb_log.specs.Wants.{has_wanted};
 
 use crate::entry::Record;
 use crate::index::Index;
-use crate::refusal::Refusal;
 use crate::steps::undoer::Undoer;
 use wb_arrays::Mover;
 use wb_book::Book;
+use wb_edit::Refusal;
 use wb_range::NoMemory;
 
 /// The numbers of the edits that have to be undone with the one at a place, from the greatest down.
@@ -116,7 +116,7 @@ pub fn undo_listed<M: Mover>(
     ensures entries { IfOk result (λ r. numbered_entries entries.new ≡ all_out_of_force (take r.0 listed.now) (numbered_entries entries.old)) }
     ensures others { IfOk result (λ r. OthersStay (entries_meant entries.old) (places (take r.0 listed.now)) (entries_meant entries.new)) }
     ensures cells { IfOk result (λ r. OtherCellsStay (entries_meant entries.old) (places (take r.0 listed.now)) (entries_meant entries.new)) }
-    ensures writes { IfOk result (λ r. book.new.writes ≡ written_more book.old.writes (set_back (entries_meant entries.old) (places (take r.0 listed.now)))) }
+    ensures writes { IfOk result (λ r. book.new.writes ≡ saturating_add book.old.writes (set_back (entries_meant entries.old) (places (take r.0 listed.now)))) }
 
     // Without memory nothing has changed.
     ensures entries_stay { OnErr result (numbered_entries entries.new ≡ numbered_entries entries.old) }
@@ -160,7 +160,7 @@ pub fn cascade_at<M: Mover>(
     ensures entries { IfOk result (λ r. numbered_entries entries.new ≡ all_out_of_force r.0.items (numbered_entries entries.old)) }
     ensures others { IfOk result (λ r. OthersStay (entries_meant entries.old) (places r.0.items) (entries_meant entries.new)) }
     ensures cells { IfOk result (λ r. OtherCellsStay (entries_meant entries.old) (places r.0.items) (entries_meant entries.new)) }
-    ensures writes { IfOk result (λ r. book.new.writes ≡ written_more book.old.writes (set_back (entries_meant entries.old) (places r.0.items))) }
+    ensures writes { IfOk result (λ r. book.new.writes ≡ saturating_add book.old.writes (set_back (entries_meant entries.old) (places r.0.items))) }
 
     // After a refusal nothing has changed.
     ensures entries_stay { OnErr result (numbered_entries entries.new ≡ numbered_entries entries.old) }

@@ -1,7 +1,7 @@
 ghost use Rattle.std.specs.Prelude.{◌≡◌, ℕ, ◌+◌, length, [], ◌∷◌, ◌++◌, OnOk, OnErr, IfOk, IfSome, IfNone, Ok, true};
 ghost use Rattle.selective_undo.specs.Changes.{apply};
 ghost use Rattle.selective_undo.specs.Edit.{outcome, reads};
-ghost use Rattle.wb_cells.specs.Cells.{Changes, written_more, count_of};
+ghost use Rattle.wb_cells.specs.Cells.{Changes, saturating_add, count_of};
 ghost use Rattle.wb_cells.specs.WellFormed.{IsWellFormed};
 ghost use Rattle.wb_edit.specs.declared.command.Command.TheVariants as command;
 ghost use Rattle.wb_edit.specs.declared.edit.Edit.TheVariants.{Command as OneCommand};
@@ -12,13 +12,12 @@ ghost use Rattle.wb_log.specs.Past.{AreValid};
 ghost use Rattle.wb_log.specs.Replies.{EditReply};
 
 use crate::entry::Record;
-use crate::refusal::Refusal;
 use crate::steps::making::make;
 use std::alloc::Global;
 use wb_arrays::Mover;
 use wb_book::Book;
 use wb_cells::{AnyIndex, Delta, Name};
-use wb_edit::{Command, Edit, Footprint, PlanErr, plan};
+use wb_edit::{Command, Edit, PlanErr, ReadFootprint, Refusal, plan};
 use wb_range::NoMemory;
 
 /// Makes an edit, and keeps it as the last.
@@ -41,7 +40,7 @@ pub fn add<M: Mover>(
     ensures reply { EditReply (entries_meant entries.old.items) (meaning edit) result }
     ensures entries { OnOk result (numbered_entries entries.new.items ≡ numbered_entries entries.old.items ++ record { edit = edit; in_force = true } ∷ []) }
     ensures appended { OnOk result ((x : Entry) × (entries.new.items ≡ entries.old.items ++ x ∷ [])) }
-    ensures writes { IfOk result (λ r. book.new.writes ≡ written_more book.old.writes r.1) }
+    ensures writes { IfOk result (λ r. book.new.writes ≡ saturating_add book.old.writes r.1) }
 
     // After a refusal nothing has changed.
     ensures entries_stay { OnErr result (entries.new.items ≡ entries.old.items) }
@@ -69,7 +68,7 @@ fn set_straight(book: &mut Book, entries: &mut Vec<Record>, edit: &Edit) -> Opti
     ensures accepted { IfSome result (λ k. (xs : Changes) × (outcome (meaning edit.now) book.old.cells ≡ Ok xs) × (1 ≡ count_of xs)) }
     ensures entries { IfSome result (λ k. numbered_entries entries.new.items ≡ numbered_entries entries.old.items ++ record { edit = edit.now; in_force = true } ∷ []) }
     ensures appended { IfSome result (λ k. (x : Entry) × (entries.new.items ≡ entries.old.items ++ x ∷ [])) }
-    ensures writes { IfSome result (λ k. book.new.writes ≡ written_more book.old.writes 1) }
+    ensures writes { IfSome result (λ k. book.new.writes ≡ saturating_add book.old.writes 1) }
 
     // Else nothing has changed.
     ensures entries_stay { IfNone result (entries.new.items ≡ entries.old.items) }
@@ -106,7 +105,7 @@ fn set_there(
     ensures entries { IfSome result (λ k. numbered_entries entries.new.items ≡ numbered_entries entries.old.items ++
         record { edit = OneCommand (command.Set array.now place.now value.now); in_force = true } ∷ []) }
     ensures appended { IfSome result (λ k. (x : Entry) × (entries.new.items ≡ entries.old.items ++ x ∷ [])) }
-    ensures writes { IfSome result (λ k. book.new.writes ≡ written_more book.old.writes 1) }
+    ensures writes { IfSome result (λ k. book.new.writes ≡ saturating_add book.old.writes 1) }
 
     // Else nothing has changed.
     ensures entries_stay { IfNone result (entries.new.items ≡ entries.old.items) }
@@ -144,7 +143,7 @@ fn add_planned<M: Mover>(
     ensures reply { EditReply (entries_meant entries.old.items) (meaning edit) result }
     ensures entries { OnOk result (numbered_entries entries.new.items ≡ numbered_entries entries.old.items ++ record { edit = edit; in_force = true } ∷ []) }
     ensures appended { OnOk result ((x : Entry) × (entries.new.items ≡ entries.old.items ++ x ∷ [])) }
-    ensures writes { IfOk result (λ r. book.new.writes ≡ written_more book.old.writes r.1) }
+    ensures writes { IfOk result (λ r. book.new.writes ≡ saturating_add book.old.writes r.1) }
 
     // After a refusal nothing has changed.
     ensures entries_stay { OnErr result (entries.new.items ≡ entries.old.items) }
@@ -177,7 +176,7 @@ fn keep_new<M: Mover>(
     entries: &mut Vec<Record>,
     edit: Edit,
     delta: Delta,
-    footprint: Footprint,
+    footprint: ReadFootprint,
     mover: &M,
 ) -> Result<u64, NoMemory>
     // The log and its workbook belong together, and the plan is the edit's.
@@ -193,7 +192,7 @@ fn keep_new<M: Mover>(
     ensures number { IfOk result (λ k. k ≡ length entries.old.items + 1) }
     ensures entries { OnOk result (numbered_entries entries.new.items ≡ numbered_entries entries.old.items ++ record { edit = edit; in_force = true } ∷ []) }
     ensures appended { OnOk result ((x : Entry) × (entries.new.items ≡ entries.old.items ++ x ∷ [])) }
-    ensures writes { OnOk result (book.new.writes ≡ written_more book.old.writes (count_of delta)) }
+    ensures writes { OnOk result (book.new.writes ≡ saturating_add book.old.writes (count_of delta)) }
 
     // Without memory nothing has changed.
     ensures entries_stay { OnErr result (entries.new.items ≡ entries.old.items) }

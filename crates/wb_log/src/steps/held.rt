@@ -9,7 +9,7 @@ ghost use Rattle.wb_cells.specs.Runs.{changes_in, in_first, packed_changes};
 ghost use Rattle.wb_cells.specs.declared.cells.cell.Cell.TheVariants as cell_kind;
 ghost use Rattle.wb_cells.specs.declared.cells.pattern.Pattern.TheVariants.{One};
 ghost use Rattle.wb_cells.specs.declared.cells.value.Value.TheVariants as value_kind;
-ghost use Rattle.wb_cells.specs.declared.changes.row.Row.TheVariants as row_kind;
+ghost use Rattle.wb_cells.specs.declared.changes.row.IndexedRow.TheVariants as row_kind;
 ghost use Rattle.wb_cells.specs.declared.values.index.Index.TheVariants as index_kind;
 ghost use Rattle.wb_log.specs.Sets.{each_read};
 
@@ -18,10 +18,10 @@ use crate::steps::making::{is_same, is_same_pattern};
 use std::alloc::Global;
 use wb_book::Book;
 use wb_cells::{
-    AnyCell, AnyIndex, Cell, CellChange, Changes, Delta, Form, Index, Name, Packed, Pattern, Point,
-    ReadRun, Row, Value,
+    AnyCell, AnyIndex, Cell, CellChange, Changes, Delta, Index, IndexedRow, Name, Packed, Pattern,
+    Point, ReadRun, RunForm, Value,
 };
-use wb_edit::Footprint;
+use wb_edit::ReadFootprint;
 use wb_range::NoMemory;
 
 // The number that the element of an array at a point is, if it is there.
@@ -71,36 +71,38 @@ fn held_at<const R: usize>(
         inverse (packed_changes changed.now.row changed.now.changes.items) book.now.cells)) }
 {
     match changed.row() {
-        Row::Elements(array) => match numbers_at(alloc, book, array, changed.changes()) {
+        IndexedRow::Elements(array) => match numbers_at(alloc, book, array, changed.changes()) {
             Err(why) => Err(why),
             Ok(None) => Ok(None),
-            Ok(Some(held)) => Ok(Some(Packed::new(Row::Elements(*array), held))),
+            Ok(Some(held)) => Ok(Some(Packed::new(IndexedRow::Elements(*array), held))),
         },
-        Row::Inside(_) | Row::Members(_) => Ok(None),
+        IndexedRow::Inside(_) | IndexedRow::Members(_) => Ok(None),
     }
 }
 
 // The same of a run of changes.
-fn held_run(alloc: Global, book: &Book, changed: &Form) -> Result<Option<Form>, NoMemory>
+fn held_run(alloc: Global, book: &Book, changed: &RunForm) -> Result<Option<RunForm>, NoMemory>
     ensures { IfOk result (λ o. IfSome o (λ f. changes_in f ≡ inverse (changes_in changed.now) book.now.cells)) }
 {
     match changed {
-        Form::Line(line) => match held_at(alloc, book, line) {
+        RunForm::Rank1(line) => match held_at(alloc, book, line) {
             Err(why) => Err(why),
             Ok(None) => Ok(None),
-            Ok(Some(held)) => Ok(Some(Form::Line(held))),
+            Ok(Some(held)) => Ok(Some(RunForm::Rank1(held))),
         },
-        Form::Plane(plane) => match held_at(alloc, book, plane) {
+        RunForm::Rank2(plane) => match held_at(alloc, book, plane) {
             Err(why) => Err(why),
             Ok(None) => Ok(None),
-            Ok(Some(held)) => Ok(Some(Form::Plane(held))),
+            Ok(Some(held)) => Ok(Some(RunForm::Rank2(held))),
         },
-        Form::Solid(solid) => match held_at(alloc, book, solid) {
+        RunForm::Rank3(solid) => match held_at(alloc, book, solid) {
             Err(why) => Err(why),
             Ok(None) => Ok(None),
-            Ok(Some(held)) => Ok(Some(Form::Solid(held))),
+            Ok(Some(held)) => Ok(Some(RunForm::Rank3(held))),
         },
-        Form::One(_) | Form::Labels(_) | Form::Rectangle(_) | Form::Numbers(_) => Ok(None),
+        RunForm::One(_) | RunForm::Labels(_) | RunForm::Rectangle(_) | RunForm::Numbers(_) => Ok(
+            None,
+        ),
     }
 }
 
@@ -183,7 +185,7 @@ fn are_each(first: &[Pattern], rest: &Changes, before: &Cell, cells: &Changes) -
 }
 
 // Whether what a plan read is a look at one cell before that at each of others.
-fn reads_each(footprint: &Footprint, before: &Cell, cells: &Changes) -> bool
+fn reads_each(footprint: &ReadFootprint, before: &Cell, cells: &Changes) -> bool
     ensures { result ≡ true → footprint.now ≡ each_read (One before.now ∷ []) cells.now }
 {
     let (first, rest) = footprint.parts();
@@ -206,7 +208,7 @@ pub(crate) fn held_of(
     book: &Book,
     before: &Cell,
     delta: &Delta,
-    footprint: &Footprint,
+    footprint: &ReadFootprint,
 ) -> Result<Option<CellsWere>, NoMemory>
     ensures { IfOk result (λ o. IfSome o (λ w. w ≡ record { footprint = footprint.now; inverse = inverse delta.now book.now.cells })) }
 {

@@ -4,7 +4,7 @@ ghost use Rattle.std.specs.Prelude.{◌≡◌, [], ◌∷◌, ◌++◌, Some, If
 ghost use Rattle.std.specs.FinMap.{get};
 ghost use Rattle.std.specs.Ordering.{eq_by_cmp};
 ghost use Rattle.selective_undo.specs.Changes.{apply, inverse};
-ghost use Rattle.wb_cells.specs.Cells.{Cells, cell_cmp, written_more, count_of};
+ghost use Rattle.wb_cells.specs.Cells.{Cells, cell_cmp, saturating_add, count_of};
 ghost use Rattle.wb_cells.specs.WellFormed.{IsWellFormed};
 ghost use Rattle.wb_cells.specs.Reads.{read_in, all_read, patterns_of};
 ghost use Rattle.wb_cells.specs.declared.cells.pattern.Pattern.TheVariants.{One};
@@ -17,7 +17,7 @@ use std::alloc::Global;
 use wb_arrays::Mover;
 use wb_book::Book;
 use wb_cells::{Cell, Changes, Delta, Pattern, ReadRun, Value};
-use wb_edit::{Edit, Footprint};
+use wb_edit::{Edit, ReadFootprint};
 use wb_range::NoMemory;
 
 // Whether the cells are one.
@@ -111,7 +111,7 @@ fn are_of(first: &[Pattern], rest: &[ReadRun], reads: &[Pattern]) -> bool
 }
 
 // Whether the patterns of a footprint are these, of which the last may be kept in a run.
-fn is_of(footprint: &Footprint, reads: &[Pattern]) -> bool
+fn is_of(footprint: &ReadFootprint, reads: &[Pattern]) -> bool
     ensures { result ≡ true → footprint.now ≡ reads.now }
 {
     let (first, rest) = footprint.parts();
@@ -139,7 +139,7 @@ fn old_value(
     reads: &[Pattern],
     target: &Cell,
     delta: &Delta,
-    footprint: &Footprint,
+    footprint: &ReadFootprint,
 ) -> Option<Before>
     ensures { IfSome result (λ was. (footprint.now ≡ reads.now) × (inverse delta.now book.now.cells ≡ cell_before target.now was)) }
 {
@@ -153,7 +153,7 @@ fn old_value(
 }
 
 // What the cell held that the edit of a form changed, where what it read, and what takes it back, follow from that.
-fn old_of(book: &Book, form: &Form, delta: &Delta, footprint: &Footprint) -> Option<Before>
+fn old_of(book: &Book, form: &Form, delta: &Delta, footprint: &ReadFootprint) -> Option<Before>
     ensures { IfSome result (λ was. kept_of form.now (Some was) ≡ Some (record { footprint = footprint.now; inverse = inverse delta.now book.now.cells })) }
 {
     match form {
@@ -179,7 +179,7 @@ fn olds_of(
     book: &Book,
     form: &Form,
     delta: &Delta,
-    footprint: &Footprint,
+    footprint: &ReadFootprint,
 ) -> Result<Option<CellsWere>, NoMemory>
     ensures { IfOk result (λ o. IfSome o (λ were. held_of form.now were ≡ Some (record { footprint = footprint.now; inverse = inverse delta.now book.now.cells }))) }
 {
@@ -194,7 +194,7 @@ fn make_whole<M: Mover>(
     book: &mut Book,
     entry: &mut Entry,
     delta: Delta,
-    footprint: Footprint,
+    footprint: ReadFootprint,
     mover: &M,
 ) -> Result<(), NoMemory>
     requires well_formed { IsWellFormed (apply delta book.old.cells) }
@@ -204,7 +204,7 @@ fn make_whole<M: Mover>(
           Some (record { footprint = footprint; inverse = inverse delta book.old.cells });
     }) }
     ensures cells { OnOk result (book.new.cells ≡ apply delta book.old.cells) }
-    ensures writes { OnOk result (book.new.writes ≡ written_more book.old.writes (count_of delta)) }
+    ensures writes { OnOk result (book.new.writes ≡ saturating_add book.old.writes (count_of delta)) }
     ensures entry_stays { OnErr result (entry.new ≡ entry.old) }
     ensures book_stays { OnErr result (book.new ≡ book.old) }
 {
@@ -223,13 +223,13 @@ fn make_new<M: Mover>(
     book: &mut Book,
     edit: Edit,
     delta: Delta,
-    footprint: Footprint,
+    footprint: ReadFootprint,
     mover: &M,
 ) -> Result<Form, NoMemory>
     requires well_formed { IsWellFormed (apply delta book.old.cells) }
     ensures form { IfOk result (λ f. shown f ≡ record { edit = edit; kept = Some (record { footprint = footprint; inverse = inverse delta book.old.cells }) }) }
     ensures cells { OnOk result (book.new.cells ≡ apply delta book.old.cells) }
-    ensures writes { OnOk result (book.new.writes ≡ written_more book.old.writes (count_of delta)) }
+    ensures writes { OnOk result (book.new.writes ≡ saturating_add book.old.writes (count_of delta)) }
     ensures book_stays { OnErr result (book.new ≡ book.old) }
 {
     match Box::new(alloc, Entry { edit, kept: None }) {
@@ -247,7 +247,7 @@ fn make_unlike<M: Mover>(
     book: &mut Book,
     form: &mut Form,
     delta: Delta,
-    footprint: Footprint,
+    footprint: ReadFootprint,
     mover: &M,
 ) -> Result<(), NoMemory>
     requires well_formed { IsWellFormed (apply delta book.old.cells) }
@@ -257,7 +257,7 @@ fn make_unlike<M: Mover>(
           Some (record { footprint = footprint; inverse = inverse delta book.old.cells });
     }) }
     ensures cells { OnOk result (book.new.cells ≡ apply delta book.old.cells) }
-    ensures writes { OnOk result (book.new.writes ≡ written_more book.old.writes (count_of delta)) }
+    ensures writes { OnOk result (book.new.writes ≡ saturating_add book.old.writes (count_of delta)) }
     ensures form_stays { OnErr result (shown form.new ≡ shown form.old) }
     ensures book_stays { OnErr result (book.new ≡ book.old) }
 {
@@ -282,7 +282,7 @@ fn make_one<M: Mover>(
     book: &mut Book,
     form: &mut Form,
     delta: Delta,
-    footprint: Footprint,
+    footprint: ReadFootprint,
     mover: &M,
 ) -> Result<(), NoMemory>
     requires well_formed { IsWellFormed (apply delta book.old.cells) }
@@ -292,7 +292,7 @@ fn make_one<M: Mover>(
           Some (record { footprint = footprint; inverse = inverse delta book.old.cells });
     }) }
     ensures cells { OnOk result (book.new.cells ≡ apply delta book.old.cells) }
-    ensures writes { OnOk result (book.new.writes ≡ written_more book.old.writes (count_of delta)) }
+    ensures writes { OnOk result (book.new.writes ≡ saturating_add book.old.writes (count_of delta)) }
     ensures form_stays { OnErr result (shown form.new ≡ shown form.old) }
     ensures book_stays { OnErr result (book.new ≡ book.old) }
 {
@@ -314,7 +314,7 @@ fn make_form<M: Mover>(
     book: &mut Book,
     form: &mut Form,
     delta: Delta,
-    footprint: Footprint,
+    footprint: ReadFootprint,
     mover: &M,
 ) -> Result<(), NoMemory>
     requires well_formed { IsWellFormed (apply delta book.old.cells) }
@@ -324,7 +324,7 @@ fn make_form<M: Mover>(
           Some (record { footprint = footprint; inverse = inverse delta book.old.cells });
     }) }
     ensures cells { OnOk result (book.new.cells ≡ apply delta book.old.cells) }
-    ensures writes { OnOk result (book.new.writes ≡ written_more book.old.writes (count_of delta)) }
+    ensures writes { OnOk result (book.new.writes ≡ saturating_add book.old.writes (count_of delta)) }
     ensures form_stays { OnErr result (shown form.new ≡ shown form.old) }
     ensures book_stays { OnErr result (book.new ≡ book.old) }
 {
@@ -347,7 +347,7 @@ pub fn make<M: Mover>(
     book: &mut Book,
     entry: &mut Record,
     delta: Delta,
-    footprint: Footprint,
+    footprint: ReadFootprint,
     mover: &M,
 ) -> Result<(), NoMemory>
     requires well_formed { IsWellFormed (apply delta book.old.cells) }
@@ -357,7 +357,7 @@ pub fn make<M: Mover>(
           Some (record { footprint = footprint; inverse = inverse delta book.old.cells });
     }) }
     ensures cells { OnOk result (book.new.cells ≡ apply delta book.old.cells) }
-    ensures writes { OnOk result (book.new.writes ≡ written_more book.old.writes (count_of delta)) }
+    ensures writes { OnOk result (book.new.writes ≡ saturating_add book.old.writes (count_of delta)) }
     ensures entry_stays { OnErr result (entry.new ≡ entry.old) }
     ensures book_stays { OnErr result (book.new ≡ book.old) }
 {

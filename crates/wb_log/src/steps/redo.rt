@@ -1,6 +1,6 @@
 ghost use Rattle.std.specs.Prelude.{◌≡◌, ℕ, ◌+◌, ◌^◌, ◌<◌, length, [], None, Some, Err, OnOk, OnErr, IfOk, IfErr};
 ghost use Rattle.selective_undo.specs.Changes.{apply, inverse};
-ghost use Rattle.wb_cells.specs.Cells.{written_more, count_of};
+ghost use Rattle.wb_cells.specs.Cells.{saturating_add, count_of};
 ghost use Rattle.wb_cells.specs.WellFormed.{IsWellFormed};
 ghost use Rattle.wb_edit.specs.Edits.{meaning};
 ghost use Rattle.wb_edit.specs.Plans.{IsPlan};
@@ -12,17 +12,20 @@ ghost use Rattle.wb_log.specs.Replies.{RedoReply, RedoesInPlace};
 
 use crate::entry::Record;
 use crate::index::Index;
-use crate::refusal::Refusal;
 use crate::steps::making::make;
 use std::alloc::Global;
 use wb_arrays::Mover;
 use wb_book::Book;
 use wb_cells::{Changes, Delta};
-use wb_edit::{Footprint, PlanErr, plan};
+use wb_edit::{PlanErr, ReadFootprint, Refusal, plan};
 use wb_range::NoMemory;
 
 /// What an entry's edit would change in a workbook.
-fn plan_of(alloc: Global, book: &Book, entry: &Record) -> Result<(Delta, Footprint, usize), PlanErr>
+fn plan_of(
+    alloc: Global,
+    book: &Book,
+    entry: &Record,
+) -> Result<(Delta, ReadFootprint, usize), PlanErr>
     ensures { IsPlan (meaning entry.now.edit) book.now.cells result }
 {
     match entry.edit(alloc) {
@@ -38,7 +41,7 @@ fn plan_again(
     entries: &[Record],
     index: &mut Index,
     at: usize,
-) -> Result<(Delta, Footprint, usize), Refusal>
+) -> Result<(Delta, ReadFootprint, usize), Refusal>
     // The place is in the log, which belongs together with its workbook and its index.
     requires in_log { at < length entries.now }
     requires few { length entries.now < 2 ^ 63 }
@@ -70,7 +73,7 @@ fn plan_blocker(
     entries: &[Record],
     index: &mut Index,
     at: usize,
-    footprint: &Footprint,
+    footprint: &ReadFootprint,
     delta: &Delta,
 ) -> Option<u64>
     requires in_log { at < length entries.now }
@@ -89,7 +92,7 @@ fn refused_blocker(
     entries: &[Record],
     index: &mut Index,
     at: usize,
-    footprint: &Footprint,
+    footprint: &ReadFootprint,
 ) -> Option<u64>
     requires in_log { at < length entries.now }
     requires few { length entries.now < 2 ^ 63 }
@@ -128,7 +131,7 @@ fn put_in<M: Mover>(
     index: &mut Index,
     at: usize,
     delta: Delta,
-    footprint: Footprint,
+    footprint: ReadFootprint,
     mover: &M,
 ) -> Result<(), NoMemory>
     // The changes lead to a well-formed workbook.
@@ -142,7 +145,7 @@ fn put_in<M: Mover>(
           Some (record { footprint = footprint; inverse = inverse delta book.old.cells });
     }) }
     ensures cells { OnOk result (book.new.cells ≡ apply delta book.old.cells) }
-    ensures writes { OnOk result (book.new.writes ≡ written_more book.old.writes (count_of delta)) }
+    ensures writes { OnOk result (book.new.writes ≡ saturating_add book.old.writes (count_of delta)) }
     ensures put { OnOk result ((count : ℕ) (footprints : Footprints) → Indexes index.old count footprints → footprints (at + 1) ≡ None →
         Indexes index.new count (with_footprint footprints (at + 1) (kept_in entry.new))) }
 
@@ -187,7 +190,7 @@ pub fn redo_at<M: Mover>(
     ensures reply { RedoReply (entries_meant entries.old) at result }
     ensures entries { OnOk result (numbered_entries entries.new ≡ into_force at (numbered_entries entries.old)) }
     ensures in_place { OnOk result (RedoesInPlace (entries_meant entries.old) at (entries_meant entries.new)) }
-    ensures writes { IfOk result (λ n. book.new.writes ≡ written_more book.old.writes n) }
+    ensures writes { IfOk result (λ n. book.new.writes ≡ saturating_add book.old.writes n) }
 
     // After a refusal nothing has changed.
     ensures entries_stay { OnErr result (numbered_entries entries.new ≡ numbered_entries entries.old) }

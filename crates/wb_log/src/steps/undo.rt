@@ -1,5 +1,5 @@
 ghost use Rattle.std.specs.Prelude.{◌≡◌, ℕ, ◌+◌, ◌-◌, ◌^◌, ◌<◌, length, None, OnOk, OnErr, IfOk, IfErr};
-ghost use Rattle.wb_cells.specs.Cells.{written_more};
+ghost use Rattle.wb_cells.specs.Cells.{saturating_add};
 ghost use Rattle.wb_footprints.specs.Footprints.{Footprints, with_footprint};
 ghost use Rattle.wb_log.specs.Indexed.{Indexes, IsIndexed};
 ghost use Rattle.wb_log.specs.Kept.{kept_in, Shows, MayUndo, TakenBack, LeavesWellFormed, refusal_of, entries_meant, numbered_entries};
@@ -8,9 +8,9 @@ ghost use Rattle.wb_log.specs.Replies.{UndoReply, LastReply, SetsBack, LeavesOth
 
 use crate::entry::Record;
 use crate::index::Index;
-use crate::refusal::Refusal;
 use wb_arrays::Mover;
 use wb_book::Book;
+use wb_edit::Refusal;
 
 /// Whether an edit may not be undone.
 fn undo_refusal(entries: &[Record], index: &mut Index, at: usize) -> Option<Refusal>
@@ -94,7 +94,7 @@ fn undo_free<M: Mover>(
     ensures entries { OnOk result (numbered_entries entries.new ≡ out_of_force at (numbered_entries entries.old)) }
     ensures set_back { OnOk result (SetsBack (entries_meant entries.old) at (entries_meant entries.new)) }
     ensures others { OnOk result (LeavesOthers (entries_meant entries.old) at (entries_meant entries.new)) }
-    ensures writes { IfOk result (λ n. book.new.writes ≡ written_more book.old.writes n) }
+    ensures writes { IfOk result (λ n. book.new.writes ≡ saturating_add book.old.writes n) }
 
     // After a refusal nothing has changed.
     ensures entries_stay { OnErr result (numbered_entries entries.new ≡ numbered_entries entries.old) }
@@ -127,7 +127,7 @@ pub fn undo_at<M: Mover>(
     ensures entries { OnOk result (numbered_entries entries.new ≡ out_of_force at (numbered_entries entries.old)) }
     ensures set_back { OnOk result (SetsBack (entries_meant entries.old) at (entries_meant entries.new)) }
     ensures others { OnOk result (LeavesOthers (entries_meant entries.old) at (entries_meant entries.new)) }
-    ensures writes { IfOk result (λ n. book.new.writes ≡ written_more book.old.writes n) }
+    ensures writes { IfOk result (λ n. book.new.writes ≡ saturating_add book.old.writes n) }
 
     // After a refusal nothing has changed.
     ensures entries_stay { OnErr result (numbered_entries entries.new ≡ numbered_entries entries.old) }
@@ -161,7 +161,7 @@ pub fn undo_latest<M: Mover>(
     ensures entries { IfOk result (λ r. numbered_entries entries.new ≡ out_of_force (r.0 - 1) (numbered_entries entries.old)) }
     ensures restored { IfOk result (λ r. Restores (entries_meant entries.old) (r.0 - 1) (entries_meant entries.new)) }
     ensures others { IfOk result (λ r. LeavesOthers (entries_meant entries.old) (r.0 - 1) (entries_meant entries.new)) }
-    ensures writes { IfOk result (λ r. book.new.writes ≡ written_more book.old.writes r.1) }
+    ensures writes { IfOk result (λ r. book.new.writes ≡ saturating_add book.old.writes r.1) }
 
     // After a refusal nothing has changed.
     ensures entries_stay { OnErr result (numbered_entries entries.new ≡ numbered_entries entries.old) }

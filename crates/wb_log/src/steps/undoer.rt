@@ -1,7 +1,7 @@
 //! What makes the undos of a cascade, and alone says which of them wanted memory.
 
 ghost use Rattle.std.specs.Prelude.{◌≡◌, ◌^◌, ◌<◌, false, length, Ok, OnOk, OnErr, IfOk, is_err};
-ghost use Rattle.wb_cells.specs.Cells.{written_more};
+ghost use Rattle.wb_cells.specs.Cells.{saturating_add};
 ghost use Rattle.wb_log.specs.Cascades.{IsFree};
 ghost use Rattle.wb_log.specs.Indexed.{IsIndexed};
 ghost use Rattle.wb_log.specs.Kept.{Shows, entries_meant, numbered_entries};
@@ -54,7 +54,7 @@ impl Undoer {
         // The answer; the edit is out of force, and the cells that were set back are counted.
         ensures reply { IfOk result (λ n. UndoReply (entries_meant entries.old) at (Ok n)) }
         ensures entries { OnOk result (numbered_entries entries.new ≡ out_of_force at (numbered_entries entries.old)) }
-        ensures writes { IfOk result (λ n. book.new.writes ≡ written_more book.old.writes n) }
+        ensures writes { IfOk result (λ n. book.new.writes ≡ saturating_add book.old.writes n) }
 
         // Without memory nothing has changed, and the undoer knows that an undo wanted it.
         ensures entries_stay { OnErr result (numbered_entries entries.new ≡ numbered_entries entries.old) }

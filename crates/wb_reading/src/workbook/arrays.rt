@@ -11,8 +11,8 @@ ghost use Rattle.wb_text.specs.Said.{Line, name_of, first_line_of, line_of};
 use crate::workbook::columns::column;
 use std::alloc::Global;
 use std::collections::BTreeMap;
-use wb_book::Elements;
 use wb_cells::Name;
+use wb_elements::Elements;
 use wb_range::NoMemory;
 use wb_text::ObjectLine;
 

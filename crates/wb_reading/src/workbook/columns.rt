@@ -17,8 +17,8 @@ ghost use Rattle.wb_text.specs.Said.{first_line_of, line_of};
 
 use std::alloc::Global;
 use std::collections::BTreeMap;
-use wb_book::Elements;
-use wb_cells::{AnyIndex, AnyLayout, AnyRect, KeyType, Name, RectangleNumbers, Row};
+use wb_cells::{AnyIndex, AnyLayout, AnyRect, IndexedRow, KeyType, Name, RectangleNumbers};
+use wb_elements::Elements;
 use wb_range::NoMemory;
 use wb_text::{NumberList, ObjectLine, find, indices_of};
 
@@ -85,7 +85,7 @@ fn numbered(
     ensures lies { IfOk result (λ o. IfSome o (λ e. e.1 ≡ (mapping.now, length ranges.now))) }
 {
     let listed = numbers.list(alloc)?;
-    let block = RectangleNumbers::new(Row::Elements(*array), *ranges, listed);
+    let block = RectangleNumbers::new(IndexedRow::Elements(*array), *ranges, listed);
     match Elements::of_block(alloc, &block, mapping, ranges.rank()) {
         Ok(Some(made)) => {
             // For the proof: the elements ascend.

@@ -11,7 +11,8 @@ use std::test::Fail;
 use std::thread::Threads;
 use wb_arrays::{Crew, Mover};
 use wb_desk::{Cause, Desk, DeskErr, Opening, Pass, Records, settle};
-use wb_protocol::{Reply, Request, read_request, reply_text};
+use wb_machine::{Reply, reply_text};
+use wb_requests::{Request, read_request};
 
 const NEW_SET: &str = "{\"op\":\"assoc\",\"d\":\"N\",\"of\":\"int\"}";
 

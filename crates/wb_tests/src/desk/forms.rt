@@ -10,8 +10,10 @@ use std::sync::ledger::Blank;
 use std::test::Fail;
 use wb_arrays::{Crew, Mover};
 use wb_desk::{Desk, Entry, Opening, Pass, Records};
-use wb_history::{Answer, Refusal};
-use wb_protocol::{Reply, Request, read_request, reply_text};
+use wb_edit::Refusal;
+use wb_history::Answer;
+use wb_machine::{Reply, reply_text};
+use wb_requests::{Request, read_request};
 
 // What is asked, and its reply.
 type Row = (&'static str, &'static str);

@@ -10,9 +10,9 @@ use std::test::Fail;
 use wb_arrays::{Crew, Mover};
 use wb_desk::{Desk, DeskErr, Opening, settle};
 use wb_history::History;
-use wb_protocol::encoding::print_history;
-use wb_protocol::histories::read_history;
-use wb_protocol::reply_text;
+use wb_machine::encoding::print_history;
+use wb_machine::histories::read_history;
+use wb_machine::reply_text;
 
 const TEXT: &str =
     "chapel-workbook 2\narray A over D [0, 0, 0, 0]\nrect D {1..4} none\nhistory 3\n+ {\"d\":\"D\",\"is\":\"{1..4}\",\"map\":\"none\",\"op\":\"domain\"}\n+ {\"a\":\"A\",\"d\":\"D\",\"op\":\"array\"}\n- {\"a\":\"A\",\"i\":4,\"op\":\"set\",\"v\":9}\nend\n";

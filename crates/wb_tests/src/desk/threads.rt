@@ -8,7 +8,7 @@ use std::thread::Threads;
 use wb_arrays::Mover;
 use wb_desk::{Desk, Opening, Pass};
 use wb_history::Answer;
-use wb_protocol::Reply;
+use wb_machine::Reply;
 
 /// What each seat does.
 #[derive(Clone, Copy, Debug, PartialEq, Eq)]

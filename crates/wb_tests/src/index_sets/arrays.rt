@@ -10,7 +10,7 @@ use std::alloc::Global;
 use std::fmt::Debug;
 use std::test::Fail;
 use wb_arrays::{Bound, Pieces, Store};
-use wb_dist::{Cyclic, Home, Layout};
+use wb_dist::{Cyclic, Layout, SingleLocale};
 use wb_range::{Domain, Key, Mapping, NoMemory};
 use wb_rect::Rect;
 
@@ -170,7 +170,7 @@ fn by_integer_sets(
     in_pieces(
         alloc,
         given,
-        &Home::new(),
+        &SingleLocale::new(),
         (&old, &new),
         outside,
         looks.as_slice(),

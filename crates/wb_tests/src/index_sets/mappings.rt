@@ -5,7 +5,7 @@ use crate::index_sets::rectangles::rectangle;
 use crate::index_sets::rows::{Subject, Words, play, shown, unknown};
 use std::alloc::Global;
 use std::test::Fail;
-use wb_dist::{BadMapping, Block, BlockCyclic, Cyclic, Distribution, Home, Layout};
+use wb_dist::{BadMapping, Block, BlockCyclic, Cyclic, Distribution, Layout, SingleLocale};
 use wb_range::Mapping;
 
 // The locale of an index, and how many locales there are. A box is a range a dimension, which is low, high, stride and
@@ -138,7 +138,7 @@ fn rows_of_mappings(rt: HostRuntime) -> Result<(), Fail> {
     let bounds = rectangle(&mut Words::of("1 10 1 _"))?;
     let blocks = Block::new(bounds, [4])?;
     assert!(rt; blocks.bounds() == bounds && blocks.grid() == [4]);
-    let home: Home<i64> = Home::new();
+    let home: SingleLocale<i64> = SingleLocale::new();
     assert_eq!(rt; home.locale_of(7), 0);
     Ok(())
 }

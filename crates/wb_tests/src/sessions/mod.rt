@@ -1,4 +1,4 @@
-//! The index of footprints, worked histories and lines of requests: the crates from `wb_cells` to `wb_protocol`.
+//! The index of footprints, worked histories and lines of requests: the crates from `wb_cells` to `wb_machine`.
 
 mod footprints;
 mod movers;

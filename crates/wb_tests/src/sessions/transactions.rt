@@ -4,8 +4,8 @@ use std::alloc::Global;
 use std::test::Fail;
 use wb_arrays::{Crew, Mover};
 use wb_cells::{AnyIndex, AnyLayout, AnyRect, Cell, EditRefusal, Index, Name, Point, Value};
-use wb_edit::{AskedRectangle, Command, Edit, Note, Transaction};
-use wb_history::{Answer, History, Query, Refusal};
+use wb_edit::{AskedRectangle, Command, Edit, Note, Query, Refusal, Transaction};
+use wb_history::{Answer, History};
 use wb_range::Range;
 
 fn name(text: &str) -> Result<Name, Fail> {
@@ -20,7 +20,7 @@ fn line(lo: i64, hi: i64) -> Result<AskedRectangle, Fail> {
     let Ok(range) = Range::new(lo, hi, 1, None) else {
         return Err(Fail::new("no range"));
     };
-    let Ok(ranges) = AnyRect::from_range(range) else {
+    let Ok(ranges) = AnyRect::from_ranges(&[range]) else {
         return Err(Fail::new("no rectangle"));
     };
     Ok(AskedRectangle::Ranges(ranges))
@@ -94,7 +94,7 @@ fn the_third_is_refused(rt: HostRuntime) -> Result<(), Fail> {
         matches!(
             refused,
             Err(Refusal::Refused(EditRefusal {
-                why: wb_cells::Refusal::OutOfDomain,
+                why: wb_cells::WhyRefused::OutOfDomain,
                 at: Some(2),
             }))
         )
@@ -124,7 +124,7 @@ fn a_cell_that_is_set_twice(rt: HostRuntime) -> Result<(), Fail> {
         matches!(
             single,
             Err(Refusal::Refused(EditRefusal {
-                why: wb_cells::Refusal::OutOfDomain,
+                why: wb_cells::WhyRefused::OutOfDomain,
                 at: None,
             }))
         )

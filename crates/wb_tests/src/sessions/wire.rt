@@ -3,8 +3,8 @@
 use std::alloc::Global;
 use std::process::Abort;
 use std::test::Fail;
-use wb_protocol::wire::{edit_text, request_text};
-use wb_protocol::{Request, read_request};
+use wb_requests::wire::{edit_text, request_text};
+use wb_requests::{Request, read_request};
 
 // Lines, each with the canonical line of its request.
 const LINES: [(&str, &str); 24] = [

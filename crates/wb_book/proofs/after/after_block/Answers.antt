@@ -7,7 +7,7 @@ use Rattle.wb_book.proofs.after.after_block.Goals as goal
 
 pub returns-in-Ok-Some-clause-after : goal.returns-in-Ok-Some-clause-after
 returns-in-Ok-Some-clause-after g c =
-    let xs = g.B.Block.entries c.args.block.now in
+    let xs = g.B.ChangeBlock.entries c.args.block.now in
     let fresh = c.in-Ok-Some.fresh in
     let are : all_set fresh.0 ≡ as_changes Point xs = rw c.in-Ok-Some.field-0-is at c.in-Ok-Some.ensures.elements in
     let none : length c.args.elements.now.0 ≡ 0 = sym c.len.ensures.count ∙ c.if-len-eq0.true in

@@ -4,22 +4,22 @@ use Rattle.wb_book.specs.Joined.{answer, stored_in, element_in}
 use Rattle.wb_book.proofs.Told.{form_told, block_told}
 use Rattle.wb_book.proofs.after.form_before.Goals as goal
 
-pub returns-in-Line : goal.returns-in-Line
-returns-in-Line c =
-    let p = c.in-Line.packed in
-    form_told c.line_before.result c.args.form.now (packed_changes p.row p.changes.items) (element_in c.args.arrays.now.entries) (ap changes_in c.in-Line.is)
+pub returns-in-Rank1 : goal.returns-in-Rank1
+returns-in-Rank1 c =
+    let p = c.in-Rank1.packed in
+    form_told c.line_before.result c.args.form.now (packed_changes p.row p.changes.items) (element_in c.args.arrays.now.entries) (ap changes_in c.in-Rank1.is)
     c.line_before.ensures (stored_in c.args.cells.now.entries)
 
-pub returns-in-Plane : goal.returns-in-Plane
-returns-in-Plane c =
-    let p = c.in-Plane.packed in
-    form_told c.plane_before.result c.args.form.now (packed_changes p.row p.changes.items) (element_in c.args.arrays.now.entries) (ap changes_in c.in-Plane.is)
+pub returns-in-Rank2 : goal.returns-in-Rank2
+returns-in-Rank2 c =
+    let p = c.in-Rank2.packed in
+    form_told c.plane_before.result c.args.form.now (packed_changes p.row p.changes.items) (element_in c.args.arrays.now.entries) (ap changes_in c.in-Rank2.is)
     c.plane_before.ensures (stored_in c.args.cells.now.entries)
 
-pub returns-in-Solid : goal.returns-in-Solid
-returns-in-Solid c =
-    let p = c.in-Solid.packed in
-    form_told c.solid_before.result c.args.form.now (packed_changes p.row p.changes.items) (element_in c.args.arrays.now.entries) (ap changes_in c.in-Solid.is)
+pub returns-in-Rank3 : goal.returns-in-Rank3
+returns-in-Rank3 c =
+    let p = c.in-Rank3.packed in
+    form_told c.solid_before.result c.args.form.now (packed_changes p.row p.changes.items) (element_in c.args.arrays.now.entries) (ap changes_in c.in-Rank3.is)
     c.solid_before.ensures (stored_in c.args.cells.now.entries)
 
 pub returns-in-Rectangle : goal.returns-in-Rectangle

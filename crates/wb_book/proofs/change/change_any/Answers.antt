@@ -27,39 +27,39 @@ returns-then-are_set-clause-shelf g c =
     (sym c.are_set.ensures ∙ c.if-are_set.true)
     c.set_all.ensures.names c.set_all.ensures.lie c.set_all.ensures.agree).1
 
-pub concerned-requires : goal.concerned-requires
-concerned-requires g c = all_numeric c.args.delta.now (cells_of c.args.cells.now c.args.arrays.now) c.requires.once c.requires.formed
+pub group_changes-requires : goal.group_changes-requires
+group_changes-requires g c = all_numeric c.args.delta.now (cells_of c.args.cells.now c.args.arrays.now) c.requires.once c.requires.formed
 
-pub prepared-requires-after_bounds : goal.prepared-requires-after_bounds
-prepared-requires-after_bounds g c κs within =
+pub prepare-requires-after_bounds : goal.prepare-requires-after_bounds
+prepare-requires-after_bounds g c κs within =
     all_formed c.args.cells.now c.args.arrays.now c.args.delta.now c.requires.shelf c.as_slice-changed.result.now (c.as_slice-changed.ensures.value
-    ∙ c.in-Ok.ensures) c.requires.once c.requires.formed c.in-Ok-concerned.groups.entries c.in-Ok-concerned.ensures.lead c.in-Ok-concerned.ensures.ascending
+    ∙ c.in-Ok.ensures) c.requires.once c.requires.formed c.in-Ok-group_changes.groups.entries c.in-Ok-group_changes.ensures.lead c.in-Ok-group_changes.ensures.ascending
 
 pub finish-requires : goal.finish-requires
 finish-requires g c =
-    built_ascending (lies_at (stored_in c.prepared.new.cells.entries)) c.prepared.new.arrays.entries c.in-Ok-concerned.groups.entries
-    c.in-Ok-prepared.built.items
-    c.in-Ok-prepared.ensures.built c.in-Ok-concerned.ensures.ascending
+    built_ascending (lies_at (stored_in c.prepare.new.cells.entries)) c.prepare.new.arrays.entries c.in-Ok-group_changes.groups.entries
+    c.in-Ok-prepare.built.items
+    c.in-Ok-prepare.ensures.built c.in-Ok-group_changes.ensures.ascending
 
-pub returns-in-Ok-prepared-clause-ok : goal.returns-in-Ok-prepared-clause-ok
-returns-in-Ok-prepared-clause-ok g c =
+pub returns-in-Ok-prepare-clause-ok : goal.returns-in-Ok-prepare-clause-ok
+returns-in-Ok-prepare-clause-ok g c =
     made_cells c.args.cells.now c.args.arrays.now c.args.delta.now c.requires.shelf c.as_slice-changed.result.now (c.as_slice-changed.ensures.value
     ∙ c.in-Ok.ensures) c.requires.once c.requires.formed
-    c.prepared.new.cells c.finish.new.cells c.prepared.new.arrays.entries c.finish.new.arrays.entries c.in-Ok-prepared.built.items
-    c.in-Ok-prepared.ensures.set c.finish.ensures.cells c.in-Ok-prepared.ensures.others c.in-Ok-prepared.ensures.elements c.in-Ok-prepared.ensures.there
-    c.in-Ok-concerned.groups.entries c.in-Ok-concerned.ensures.lead c.in-Ok-concerned.ensures.objects
-    c.in-Ok-concerned.ensures.ascending c.in-Ok-prepared.ensures.built c.finish.ensures.arrays
+    c.prepare.new.cells c.finish.new.cells c.prepare.new.arrays.entries c.finish.new.arrays.entries c.in-Ok-prepare.built.items
+    c.in-Ok-prepare.ensures.set c.finish.ensures.cells c.in-Ok-prepare.ensures.others c.in-Ok-prepare.ensures.elements c.in-Ok-prepare.ensures.there
+    c.in-Ok-group_changes.groups.entries c.in-Ok-group_changes.ensures.lead c.in-Ok-group_changes.ensures.objects
+    c.in-Ok-group_changes.ensures.ascending c.in-Ok-prepare.ensures.built c.finish.ensures.arrays
     c.finish.new.arrays refl c.finish.ensures.ascending_cells c.finish.ensures.ascending
 
-pub returns-in-Ok-prepared-clause-shelf : goal.returns-in-Ok-prepared-clause-shelf
-returns-in-Ok-prepared-clause-shelf g c =
+pub returns-in-Ok-prepare-clause-shelf : goal.returns-in-Ok-prepare-clause-shelf
+returns-in-Ok-prepare-clause-shelf g c =
     made_shelf c.args.cells.now c.args.arrays.now c.args.delta.now c.requires.shelf c.as_slice-changed.result.now (c.as_slice-changed.ensures.value
     ∙ c.in-Ok.ensures) c.requires.once c.requires.formed
-    c.prepared.new.cells c.finish.new.cells c.prepared.new.arrays.entries c.finish.new.arrays.entries c.in-Ok-prepared.built.items
-    c.in-Ok-prepared.ensures.set c.finish.ensures.cells c.in-Ok-prepared.ensures.others c.in-Ok-prepared.ensures.elements c.in-Ok-prepared.ensures.there
-    c.in-Ok-concerned.groups.entries c.in-Ok-concerned.ensures.lead c.in-Ok-concerned.ensures.objects
-    c.in-Ok-concerned.ensures.ascending c.in-Ok-prepared.ensures.built c.finish.ensures.arrays
-    c.in-Ok-concerned.ensures.others
+    c.prepare.new.cells c.finish.new.cells c.prepare.new.arrays.entries c.finish.new.arrays.entries c.in-Ok-prepare.built.items
+    c.in-Ok-prepare.ensures.set c.finish.ensures.cells c.in-Ok-prepare.ensures.others c.in-Ok-prepare.ensures.elements c.in-Ok-prepare.ensures.there
+    c.in-Ok-group_changes.groups.entries c.in-Ok-group_changes.ensures.lead c.in-Ok-group_changes.ensures.objects
+    c.in-Ok-group_changes.ensures.ascending c.in-Ok-prepare.ensures.built c.finish.ensures.arrays
+    c.in-Ok-group_changes.ensures.others
     c.finish.new.arrays refl c.finish.ensures.ascending_cells c.finish.ensures.ascending
 
 pub take_back-requires-clause-once : goal.take_back-requires-clause-once
@@ -73,7 +73,7 @@ take_back-requires-clause-once g c =
 pub take_back-requires-clause-room : goal.take_back-requires-clause-room
 take_back-requires-clause-room g c =
     rw (c.as_slice-back.ensures.value, c.in-Ok-given_before.ensures)
-    (room-inverse (sets c.as_slice-changed.result.now) (state_of c.args.cells.now) (state_of c.prepared.new.cells) c.prepared.ensures.stays_cells)
+    (room-inverse (sets c.as_slice-changed.result.now) (state_of c.args.cells.now) (state_of c.prepare.new.cells) c.prepare.ensures.stays_cells)
 
 pub take_back-requires-clause-fits : goal.take_back-requires-clause-fits
 take_back-requires-clause-fits g c =
@@ -84,10 +84,10 @@ pub returns-clause-err : goal.returns-clause-err
 returns-clause-err g c =
     let xs : Changes = c.as_slice-changed.result.now in
     let back : state_of c.take_back.new.cells ≡ state_of c.args.cells.now =
-    c.take_back.ensures.cells ∙ ap (λ (ys : Changes). apply ys (state_of c.prepared.new.cells)) (c.as_slice-back.ensures.value ∙ c.in-Ok-given_before.ensures)
-    ∙ off_cells cell_order (sets xs) (state_of c.args.cells.now) (state_of c.prepared.new.cells) c.prepared.ensures.others_cells in
+    c.take_back.ensures.cells ∙ ap (λ (ys : Changes). apply ys (state_of c.prepare.new.cells)) (c.as_slice-back.ensures.value ∙ c.in-Ok-given_before.ensures)
+    ∙ off_cells cell_order (sets xs) (state_of c.args.cells.now) (state_of c.prepare.new.cells) c.prepare.ensures.others_cells in
     (taken_back c.args.cells.now c.args.arrays.now c.args.delta.now c.requires.shelf xs (c.as_slice-changed.ensures.value ∙ c.in-Ok.ensures)
-    c.take_back.new.cells c.prepared.new.arrays.entries c.take_back.new.arrays.entries back c.prepared.ensures.others c.prepared.ensures.stays
+    c.take_back.new.cells c.prepare.new.arrays.entries c.take_back.new.arrays.entries back c.prepare.ensures.others c.prepare.ensures.stays
     c.take_back.ensures.arrays
     c.take_back.new.arrays refl c.take_back.ensures.ascending_cells c.take_back.ensures.ascending).0
 
@@ -95,9 +95,9 @@ pub returns-clause-shelf : goal.returns-clause-shelf
 returns-clause-shelf g c =
     let xs : Changes = c.as_slice-changed.result.now in
     let back : state_of c.take_back.new.cells ≡ state_of c.args.cells.now =
-    c.take_back.ensures.cells ∙ ap (λ (ys : Changes). apply ys (state_of c.prepared.new.cells)) (c.as_slice-back.ensures.value ∙ c.in-Ok-given_before.ensures)
-    ∙ off_cells cell_order (sets xs) (state_of c.args.cells.now) (state_of c.prepared.new.cells) c.prepared.ensures.others_cells in
+    c.take_back.ensures.cells ∙ ap (λ (ys : Changes). apply ys (state_of c.prepare.new.cells)) (c.as_slice-back.ensures.value ∙ c.in-Ok-given_before.ensures)
+    ∙ off_cells cell_order (sets xs) (state_of c.args.cells.now) (state_of c.prepare.new.cells) c.prepare.ensures.others_cells in
     (taken_back c.args.cells.now c.args.arrays.now c.args.delta.now c.requires.shelf xs (c.as_slice-changed.ensures.value ∙ c.in-Ok.ensures)
-    c.take_back.new.cells c.prepared.new.arrays.entries c.take_back.new.arrays.entries back c.prepared.ensures.others c.prepared.ensures.stays
+    c.take_back.new.cells c.prepare.new.arrays.entries c.take_back.new.arrays.entries back c.prepare.ensures.others c.prepare.ensures.stays
     c.take_back.ensures.arrays
     c.take_back.new.arrays refl c.take_back.ensures.ascending_cells c.take_back.ensures.ascending).1

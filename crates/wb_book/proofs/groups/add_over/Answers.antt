@@ -22,5 +22,5 @@ returns-clause-added g c =
     on_ok_weaker c.add_block.result
     (λ is. group_added gs _ c.args.name.now c.add_block.new.self
     (λ b. ap (λ es. group_in es b) (c.get_mut.follows.holds c.add_block.new.self).0 ∙ group_set gs c.args.name.now c.add_block.new.self p found b)
-    p (as_changes Point (g.B.Block.entries c.args.block.now)) found is)
+    p (as_changes Point (g.B.ChangeBlock.entries c.args.block.now)) found is)
     c.add_block.ensures

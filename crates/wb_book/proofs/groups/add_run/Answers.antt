@@ -1,7 +1,7 @@
 use Rattle.std.proofs.Common.{◌++◌, List, ℕ, true, sym, ap, subst, ◌∙◌}
 use Rattle.std.specs.List.{list_all}
 use Rattle.std.specs.Prelude.{OnOk}
-use Rattle.wb_cells.specs.declared.changes.row.Row.{Row}
+use Rattle.wb_cells.specs.declared.changes.row.IndexedRow.{IndexedRow}
 use Rattle.wb_cells.specs.Cells.{Changes}
 use Rattle.wb_cells.specs.Runs.{changes_in as run_changes, packed_changes, rectangle_entries, numbered_entries}
 use Rattle.wb_book.specs.Groups.{LeadTo, changes_in, is_numeric}
@@ -18,43 +18,43 @@ returns-in-One-clause-lead c = λ before lead.
     subst (λ (ys : Changes). OnOk c.add_change.result ((b : List ℕ) → LeadTo (before ++ ys) b (changes_in c.add_change.new.groups.entries b)))
     (sym (ap run_changes c.in-One.is)) (c.add_change.ensures.lead before lead)
 
-pub returns-in-Line-clause-lead : goal.returns-in-Line-clause-lead
-returns-in-Line-clause-lead c = λ before lead.
+pub returns-in-Rank1-clause-lead : goal.returns-in-Rank1-clause-lead
+returns-in-Rank1-clause-lead c = λ before lead.
     subst (λ (ys : Changes). OnOk c.add_entries.result ((b : List ℕ) → LeadTo (before ++ ys) b (changes_in c.add_entries.new.groups.entries b)))
-    (ap (λ (r : Row). packed_changes r c.changes.result.now) c.row.ensures
-    ∙ ap (packed_changes c.in-Line.packed.row) c.changes.ensures ∙ sym (ap run_changes c.in-Line.is))
+    (ap (λ (r : IndexedRow). packed_changes r c.changes.result.now) c.row.ensures
+    ∙ ap (packed_changes c.in-Rank1.packed.row) c.changes.ensures ∙ sym (ap run_changes c.in-Rank1.is))
     (c.add_entries.ensures.lead before lead)
 
-pub returns-in-Line-clause-object : goal.returns-in-Line-clause-object
-returns-in-Line-clause-object c =
-    on_ok_ever c.add_entries.result (λ b e. absurd (never_named c.args.form.now c.in-Line.packed.row c.in-Line.packed.changes.items b
-    (ap run_changes c.in-Line.is) e))
+pub returns-in-Rank1-clause-object : goal.returns-in-Rank1-clause-object
+returns-in-Rank1-clause-object c =
+    on_ok_ever c.add_entries.result (λ b e. absurd (never_named c.args.form.now c.in-Rank1.packed.row c.in-Rank1.packed.changes.items b
+    (ap run_changes c.in-Rank1.is) e))
 
-pub returns-in-Plane-clause-lead : goal.returns-in-Plane-clause-lead
-returns-in-Plane-clause-lead c = λ before lead.
-    subst (λ (ys : Changes). OnOk c.add_entries-in-Plane.result
-    ((b : List ℕ) → LeadTo (before ++ ys) b (changes_in c.add_entries-in-Plane.new.groups.entries b)))
-    (ap (λ (r : Row). packed_changes r c.changes-in-Plane.result.now) c.row-in-Plane.ensures
-    ∙ ap (packed_changes c.in-Plane.packed.row) c.changes-in-Plane.ensures ∙ sym (ap run_changes c.in-Plane.is))
-    (c.add_entries-in-Plane.ensures.lead before lead)
+pub returns-in-Rank2-clause-lead : goal.returns-in-Rank2-clause-lead
+returns-in-Rank2-clause-lead c = λ before lead.
+    subst (λ (ys : Changes). OnOk c.add_entries-in-Rank2.result
+    ((b : List ℕ) → LeadTo (before ++ ys) b (changes_in c.add_entries-in-Rank2.new.groups.entries b)))
+    (ap (λ (r : IndexedRow). packed_changes r c.changes-in-Rank2.result.now) c.row-in-Rank2.ensures
+    ∙ ap (packed_changes c.in-Rank2.packed.row) c.changes-in-Rank2.ensures ∙ sym (ap run_changes c.in-Rank2.is))
+    (c.add_entries-in-Rank2.ensures.lead before lead)
 
-pub returns-in-Plane-clause-object : goal.returns-in-Plane-clause-object
-returns-in-Plane-clause-object c =
-    on_ok_ever c.add_entries-in-Plane.result (λ b e. absurd (never_named c.args.form.now c.in-Plane.packed.row c.in-Plane.packed.changes.items b
-    (ap run_changes c.in-Plane.is) e))
+pub returns-in-Rank2-clause-object : goal.returns-in-Rank2-clause-object
+returns-in-Rank2-clause-object c =
+    on_ok_ever c.add_entries-in-Rank2.result (λ b e. absurd (never_named c.args.form.now c.in-Rank2.packed.row c.in-Rank2.packed.changes.items b
+    (ap run_changes c.in-Rank2.is) e))
 
-pub returns-in-Solid-clause-lead : goal.returns-in-Solid-clause-lead
-returns-in-Solid-clause-lead c = λ before lead.
-    subst (λ (ys : Changes). OnOk c.add_entries-in-Solid.result
-    ((b : List ℕ) → LeadTo (before ++ ys) b (changes_in c.add_entries-in-Solid.new.groups.entries b)))
-    (ap (λ (r : Row). packed_changes r c.changes-in-Solid.result.now) c.row-in-Solid.ensures
-    ∙ ap (packed_changes c.in-Solid.packed.row) c.changes-in-Solid.ensures ∙ sym (ap run_changes c.in-Solid.is))
-    (c.add_entries-in-Solid.ensures.lead before lead)
+pub returns-in-Rank3-clause-lead : goal.returns-in-Rank3-clause-lead
+returns-in-Rank3-clause-lead c = λ before lead.
+    subst (λ (ys : Changes). OnOk c.add_entries-in-Rank3.result
+    ((b : List ℕ) → LeadTo (before ++ ys) b (changes_in c.add_entries-in-Rank3.new.groups.entries b)))
+    (ap (λ (r : IndexedRow). packed_changes r c.changes-in-Rank3.result.now) c.row-in-Rank3.ensures
+    ∙ ap (packed_changes c.in-Rank3.packed.row) c.changes-in-Rank3.ensures ∙ sym (ap run_changes c.in-Rank3.is))
+    (c.add_entries-in-Rank3.ensures.lead before lead)
 
-pub returns-in-Solid-clause-object : goal.returns-in-Solid-clause-object
-returns-in-Solid-clause-object c =
-    on_ok_ever c.add_entries-in-Solid.result (λ b e. absurd (never_named c.args.form.now c.in-Solid.packed.row c.in-Solid.packed.changes.items b
-    (ap run_changes c.in-Solid.is) e))
+pub returns-in-Rank3-clause-object : goal.returns-in-Rank3-clause-object
+returns-in-Rank3-clause-object c =
+    on_ok_ever c.add_entries-in-Rank3.result (λ b e. absurd (never_named c.args.form.now c.in-Rank3.packed.row c.in-Rank3.packed.changes.items b
+    (ap run_changes c.in-Rank3.is) e))
 
 pub add_labels-requires : goal.add_labels-requires
 add_labels-requires c = ap (λ f. list_all is_numeric (run_changes f)) (sym c.in-Labels.is) ∙ c.requires

@@ -7,26 +7,26 @@ use Rattle.wb_book.specs.Groups.{leaves}
 use Rattle.wb_book.proofs.Entries.{all_pass, leaves_row}
 use Rattle.wb_book.proofs.groups.run_leaves.Goals as goal
 
-pub returns-in-Line : goal.returns-in-Line
-returns-in-Line c =
+pub returns-in-Rank1 : goal.returns-in-Rank1
+returns-in-Rank1 c =
     let p = leaves (stored_in c.args.cells.now.entries) in
-    let row = c.in-Line.field-0.row in
-    sym (ap (λ f. list_all p (changes_in f)) c.in-Line.is
-    ∙ all_pass p (change_at row) (λ e. leaves_row (stored_in c.args.cells.now.entries) row (Point e.0) _) c.in-Line.field-0.changes.items)
+    let row = c.in-Rank1.field-0.row in
+    sym (ap (λ f. list_all p (changes_in f)) c.in-Rank1.is
+    ∙ all_pass p (change_at row) (λ e. leaves_row (stored_in c.args.cells.now.entries) row (Point e.0) _) c.in-Rank1.field-0.changes.items)
 
-pub returns-in-Plane : goal.returns-in-Plane
-returns-in-Plane c =
+pub returns-in-Rank2 : goal.returns-in-Rank2
+returns-in-Rank2 c =
     let p = leaves (stored_in c.args.cells.now.entries) in
-    let row = c.in-Plane.field-0.row in
-    sym (ap (λ f. list_all p (changes_in f)) c.in-Plane.is
-    ∙ all_pass p (change_at row) (λ e. leaves_row (stored_in c.args.cells.now.entries) row (Point e.0) _) c.in-Plane.field-0.changes.items)
+    let row = c.in-Rank2.field-0.row in
+    sym (ap (λ f. list_all p (changes_in f)) c.in-Rank2.is
+    ∙ all_pass p (change_at row) (λ e. leaves_row (stored_in c.args.cells.now.entries) row (Point e.0) _) c.in-Rank2.field-0.changes.items)
 
-pub returns-in-Solid : goal.returns-in-Solid
-returns-in-Solid c =
+pub returns-in-Rank3 : goal.returns-in-Rank3
+returns-in-Rank3 c =
     let p = leaves (stored_in c.args.cells.now.entries) in
-    let row = c.in-Solid.field-0.row in
-    sym (ap (λ f. list_all p (changes_in f)) c.in-Solid.is
-    ∙ all_pass p (change_at row) (λ e. leaves_row (stored_in c.args.cells.now.entries) row (Point e.0) _) c.in-Solid.field-0.changes.items)
+    let row = c.in-Rank3.field-0.row in
+    sym (ap (λ f. list_all p (changes_in f)) c.in-Rank3.is
+    ∙ all_pass p (change_at row) (λ e. leaves_row (stored_in c.args.cells.now.entries) row (Point e.0) _) c.in-Rank3.field-0.changes.items)
 
 pub returns-in-Labels : goal.returns-in-Labels
 returns-in-Labels c =

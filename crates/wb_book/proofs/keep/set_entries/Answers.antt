@@ -1,8 +1,8 @@
 use Rattle.std.proofs.Common.{◌≡◌, [], refl, sym, ap, subst, ◌∙◌}
 use Rattle.std.specs.List.{list_all}
 use Rattle.selective_undo.specs.Changes.{apply}
-use Rattle.wb_cells.specs.declared.changes.row.Row.{Row}
-use Rattle.wb_cells.specs.declared.changes.row.Row.TheVariants.{Inside, Members, Elements}
+use Rattle.wb_cells.specs.declared.changes.row.IndexedRow.{IndexedRow}
+use Rattle.wb_cells.specs.declared.changes.row.IndexedRow.TheVariants.{Inside, Members, Elements}
 use Rattle.wb_cells.specs.Cells.{Changes}
 use Rattle.wb_elements.specs.Entries.{row_changes}
 use Rattle.wb_book.specs.Joined.{element_in}
@@ -16,7 +16,7 @@ returns-in-Inside-clause-agree g c = λ s agree.
     let f = g.I.AsIndex.as_index in
     let xs = c.args.changes.now in
     let row = Inside c.in-Inside.field-0 in
-    let same : row_changes f c.args.row.now xs ≡ row_changes f row xs = ap (λ (r : Row). row_changes f r xs) c.in-Inside.is in
+    let same : row_changes f c.args.row.now xs ≡ row_changes f row xs = ap (λ (r : IndexedRow). row_changes f r xs) c.in-Inside.is in
     let none : row_changes f row xs ≡ [] =
     only_none (is_set (element_in es)) _ (λ y. refl) xs (ap (list_all (is_set (element_in es))) (sym same) ∙ c.requires) in
     subst (λ (ys : Changes). Agree es (apply ys s)) (sym (same ∙ none)) agree
@@ -27,7 +27,7 @@ returns-in-Members-clause-agree g c = λ s agree.
     let f = g.I.AsIndex.as_index in
     let xs = c.args.changes.now in
     let row = Members c.in-Members.field-0 in
-    let same : row_changes f c.args.row.now xs ≡ row_changes f row xs = ap (λ (r : Row). row_changes f r xs) c.in-Members.is in
+    let same : row_changes f c.args.row.now xs ≡ row_changes f row xs = ap (λ (r : IndexedRow). row_changes f r xs) c.in-Members.is in
     let none : row_changes f row xs ≡ [] =
     only_none (is_set (element_in es)) _ (λ y. refl) xs (ap (list_all (is_set (element_in es))) (sym same) ∙ c.requires) in
     subst (λ (ys : Changes). Agree es (apply ys s)) (sym (same ∙ none)) agree
@@ -39,7 +39,7 @@ returns-in-Elements-clause-agree g c = λ s agree.
     let f = g.I.AsIndex.as_index in
     let xs = c.args.changes.now in
     let same : row_changes f c.args.row.now xs ≡ row_changes f (Elements c.in-Elements.array) xs =
-    ap (λ (r : Row). row_changes f r xs) c.in-Elements.is in
+    ap (λ (r : IndexedRow). row_changes f r xs) c.in-Elements.is in
     subst (λ (ys : Changes). Agree fs (apply ys s)) (sym same)
     (agree_made f es fs c.in-Elements.array xs c.set_elements.ensures.arrays (ap (list_all (is_set (element_in es))) (sym same) ∙ c.requires) s agree)
 
@@ -50,5 +50,5 @@ returns-in-Elements-clause-there g c = λ b i.
     let f = g.I.AsIndex.as_index in
     let xs = c.args.changes.now in
     let same : row_changes f c.args.row.now xs ≡ row_changes f (Elements c.in-Elements.array) xs =
-    ap (λ (r : Row). row_changes f r xs) c.in-Elements.is in
+    ap (λ (r : IndexedRow). row_changes f r xs) c.in-Elements.is in
     there_made f es fs c.in-Elements.array xs c.set_elements.ensures.arrays (ap (list_all (is_set (element_in es))) (sym same) ∙ c.requires) b i

@@ -5,7 +5,7 @@ use Rattle.wb_cells.specs.declared.cells.cell.Cell.TheVariants.{Element}
 use Rattle.wb_cells.specs.declared.values.index.Index.{Index}
 use Rattle.wb_cells.specs.Cells.{Name, is_same_name}
 use Rattle.wb_book.specs.Joined.{element_in}
-use Rattle.wb_book.specs.Kept.{array_in, with_element, number_in, sets_at, is_set}
+use Rattle.wb_book.specs.Kept.{array_in, with_element, number_in, sets_at}
 use Rattle.wb_book.proofs.ElementsSet.{agree_set}
 use Rattle.wb_book.proofs.Replaced.{none_there}
 use Rattle.wb_book.proofs.Same.{lie_more}

@@ -9,7 +9,7 @@ use Rattle.wb_book.proofs.keep.set_over.Goals as goal
 
 pub returns-in-Some-clause-arrays : goal.returns-in-Some-clause-arrays
 returns-in-Some-clause-arrays g c = λ b.
-    let xs = g.B.Block.entries c.args.block.now in
+    let xs = g.B.ChangeBlock.entries c.args.block.now in
     let es = c.args.arrays.now.entries in
     let p : Pieced = c.in-Some.elements.now in
     let found : array_in es c.args.array.now ≡ Some p = sym c.in-Some.ensures.value in
@@ -21,4 +21,4 @@ pub returns-in-None-clause-arrays : goal.returns-in-None-clause-arrays
 returns-in-None-clause-arrays g c = λ b.
     let none : array_in c.args.arrays.now.entries c.args.array.now ≡ None = sym c.in-None.ensures.value in
     ap (λ (m : BTreeMap Name Pieced). array_in m.entries b) c.get_mut.follows.holds-at-none
-    ∙ array_absent Point c.args.arrays.now.entries c.args.array.now b (g.B.Block.entries c.args.block.now) none
+    ∙ array_absent Point c.args.arrays.now.entries c.args.array.now b (g.B.ChangeBlock.entries c.args.block.now) none

@@ -4,10 +4,10 @@ ghost use Rattle.wb_edit.specs.Plans.{Attempts};
 ghost use Rattle.wb_edit.specs.Reshaping.{reshaped};
 ghost use Rattle.wb_edit.specs.Commands.Reshape.{to_rectangle, slice_rectangle, displace_rectangle, reshape_rectangle};
 
-use crate::attempt_err::{AttemptErr, stopped};
+use crate::attempt_err::{AttemptErr, or_refused};
 use crate::commands::reshape::no_source::plan_no_source;
 use crate::commands::reshape::replaced::plan_replaced;
-use crate::footprint::Footprint;
+use crate::footprint::ReadFootprint;
 use crate::looks::reshaping::shape;
 use crate::looks::sources::{displacement_of, gives_rectangle, ranges_given, same_rank, slice_of};
 use std::alloc::Global;
@@ -20,7 +20,7 @@ use wb_reshape::{Displacement, NewIndices, Operand};
 fn plan_reshaped(
     alloc: Global,
     book: &Layered<'_>,
-    footprint: &mut Footprint,
+    footprint: &mut ReadFootprint,
     domain: Name,
     old: &AnyRect,
     new: &AnyRect,
@@ -40,7 +40,7 @@ fn plan_reshaped(
 fn plan_to(
     alloc: Global,
     book: &Layered<'_>,
-    footprint: &mut Footprint,
+    footprint: &mut ReadFootprint,
     domain: Name,
     rank: u8,
     given: &Operand,
@@ -57,7 +57,7 @@ fn plan_to(
 fn plan_slice(
     alloc: Global,
     book: &Layered<'_>,
-    footprint: &mut Footprint,
+    footprint: &mut ReadFootprint,
     domain: Name,
     rank: u8,
     given: &Operand,
@@ -67,7 +67,7 @@ fn plan_slice(
     gives_rectangle(book, footprint, rank, given)?;
     let old = shape(book, footprint, domain)?;
     let by = ranges_given(book, footprint, given)?;
-    let new = stopped(slice_of(&old, &by))?;
+    let new = or_refused(slice_of(&old, &by))?;
     plan_reshaped(alloc, book, footprint, domain, &old, &new)
 }
 
@@ -75,7 +75,7 @@ fn plan_slice(
 fn plan_displace(
     alloc: Global,
     book: &Layered<'_>,
-    footprint: &mut Footprint,
+    footprint: &mut ReadFootprint,
     domain: Name,
     rank: u8,
     how: Displacement,
@@ -83,9 +83,9 @@ fn plan_displace(
 ) -> Result<Delta, AttemptErr>
     ensures { Attempts (displace_rectangle domain rank how offsets.now) book.now.cells footprint.old result footprint.new }
 {
-    stopped(same_rank(rank as usize, offsets.coordinates().len()))?;
+    or_refused(same_rank(rank as usize, offsets.coordinates().len()))?;
     let old = shape(book, footprint, domain)?;
-    let new = stopped(displacement_of(how, offsets, &old))?;
+    let new = or_refused(displacement_of(how, offsets, &old))?;
     plan_reshaped(alloc, book, footprint, domain, &old, &new)
 }
 
@@ -93,7 +93,7 @@ fn plan_displace(
 pub(crate) fn plan_reshape_rectangle(
     alloc: Global,
     book: &Layered<'_>,
-    footprint: &mut Footprint,
+    footprint: &mut ReadFootprint,
     domain: Name,
     rank: u8,
     source: &NewIndices,

@@ -9,11 +9,11 @@ use crate::attempt_err::AttemptErr;
 use crate::commands::reshape::no_source::plan_no_source;
 use crate::commands::reshape::operations::plan_combine;
 use crate::commands::resized::plan_resized;
-use crate::footprint::Footprint;
+use crate::footprint::ReadFootprint;
 use crate::looks::indices::members;
 use crate::looks::sources::{gives_set, indices_given};
 use std::alloc::Global;
-use wb_cells::{AnyDomain, AnyIndex, Delta, DomainKind, KeyType, Name, Refusal};
+use wb_cells::{AnyDomain, AnyIndex, Delta, DomainKind, KeyType, Name, WhyRefused};
 use wb_layers::Layered;
 use wb_reshape::set_operations::without;
 use wb_reshape::{NewIndices, Operand};
@@ -22,7 +22,7 @@ use wb_reshape::{NewIndices, Operand};
 fn plan_with_indices(
     alloc: Global,
     book: &Layered<'_>,
-    footprint: &mut Footprint,
+    footprint: &mut ReadFootprint,
     domain: Name,
     kind: &AnyDomain,
     old: &[AnyIndex],
@@ -45,7 +45,7 @@ fn plan_with_indices(
 fn plan_to(
     alloc: Global,
     book: &Layered<'_>,
-    footprint: &mut Footprint,
+    footprint: &mut ReadFootprint,
     domain: Name,
     kind: &AnyDomain,
     given: &Operand,
@@ -62,7 +62,7 @@ fn plan_to(
 pub(crate) fn plan_reshape_sparse(
     alloc: Global,
     book: &Layered<'_>,
-    footprint: &mut Footprint,
+    footprint: &mut ReadFootprint,
     domain: Name,
     kind: &AnyDomain,
     source: &NewIndices,
@@ -72,7 +72,7 @@ pub(crate) fn plan_reshape_sparse(
     match source {
         NewIndices::To(given) => plan_to(alloc, book, footprint, domain, kind, given),
         NewIndices::Slice(given) => plan_no_source(book, footprint, given),
-        NewIndices::Displace(_, _) => Err(AttemptErr::Refused(Refusal::WrongKind)),
+        NewIndices::Displace(_, _) => Err(AttemptErr::Refused(WhyRefused::WrongKind)),
         NewIndices::Combine(_, given) => plan_no_source(book, footprint, given),
     }
 }
@@ -81,7 +81,7 @@ pub(crate) fn plan_reshape_sparse(
 pub(crate) fn plan_reshape_associative(
     alloc: Global,
     book: &Layered<'_>,
-    footprint: &mut Footprint,
+    footprint: &mut ReadFootprint,
     domain: Name,
     key: KeyType,
     source: &NewIndices,
@@ -94,7 +94,7 @@ pub(crate) fn plan_reshape_associative(
             plan_to(alloc, book, footprint, domain, &kind, given)
         }
         NewIndices::Slice(given) => plan_no_source(book, footprint, given),
-        NewIndices::Displace(_, _) => Err(AttemptErr::Refused(Refusal::WrongKind)),
+        NewIndices::Displace(_, _) => Err(AttemptErr::Refused(WhyRefused::WrongKind)),
         NewIndices::Combine(how, given) => {
             plan_combine(alloc, book, footprint, domain, key, *how, given)
         }

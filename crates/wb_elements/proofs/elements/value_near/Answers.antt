@@ -11,6 +11,6 @@ returns-in-None g c = sym (value_at-none g.D.Index.Ord.cmp g.D.Index.AsIndex.as_
 
 pub returns-in-Some : goal.returns-in-Some
 returns-in-Some g c =
-    c.get_near.ensures
+    c.get_from.ensures
     ∙ sym (value_at-indexed g.D.Index.Ord.cmp g.D.Index.AsIndex.as_index g.D.Index.AsIndex.is_of g.met.D.Index.AsIndex.alike c.args.pieces.now.0 c.in-Some.key)
     ∙ ap (value_at index_cmp (indexed g.D.Index.AsIndex.as_index c.args.pieces.now.0)) c.in-Some.ensures.value

@@ -30,10 +30,10 @@ loop-at-preserved g c =
     let ps = c.loop-at.pairs.items in
     let e = c.in-Some.pair in
     let k = c.loop-at.at in
-    let xs = as_changes Point (g.B.Block.entries c.args.block.now) in
+    let xs = as_changes Point (g.B.ChangeBlock.entries c.args.block.now) in
     let old = c.loop-at.invariant in
     let pushed : c.push.new.self.items ≡ ps ++ e ∷ [] = (search rules) in
-    let low : k < length xs = omega (arith, c.loop-at-test.true, c.many-count.ensures, many_changes (g.B.Block.entries c.args.block.now)) in
+    let low : k < length xs = omega (arith, c.loop-at-test.true, c.many-count.ensures, many_changes (g.B.ChangeBlock.entries c.args.block.now)) in
     record {
       elements = ap (λ ys. all_set (indexed f ys)) pushed ∙ set_last f ps e ∙ ap (λ ys. ys ++ (f e.0, Some e.1) ∷ []) old.elements
           ∙ sym (take_more xs k (f e.0, Some e.1) low ∙ ap (λ y. take k xs ++ y ∷ []) (sym c.in-Some.ensures.value));
@@ -44,6 +44,6 @@ loop-at-preserved g c =
 
 pub returns-clause-elements : goal.returns-clause-elements
 returns-clause-elements g c =
-    let xs = as_changes Point (g.B.Block.entries c.args.block.now) in
+    let xs = as_changes Point (g.B.ChangeBlock.entries c.args.block.now) in
     c.loop-at.invariant.elements
-    ∙ take_all c.loop-at.at xs (omega (arith, c.loop-at-test.false, c.many-count.ensures, many_changes (g.B.Block.entries c.args.block.now)))
+    ∙ take_all c.loop-at.at xs (omega (arith, c.loop-at-test.false, c.many-count.ensures, many_changes (g.B.ChangeBlock.entries c.args.block.now)))

@@ -7,6 +7,6 @@ use Rattle.wb_elements.proofs.walk.list_block.Goals as goal
 
 pub returns : goal.returns
 returns g c =
-    let es = g.B.Block.entries c.args.block.now in
+    let es = g.B.ChangeBlock.entries c.args.block.now in
     c.loop-at.invariant ∙ ap (λ ys. c.args.list.now.items ++ ys)
     (take_all c.loop-at.at (as_changes Point es) (omega (arith, c.loop-at-test.false, c.many-at-end.ensures, many_changes es)))

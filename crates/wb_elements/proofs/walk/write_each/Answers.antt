@@ -7,7 +7,7 @@ use Rattle.wb_elements.proofs.walk.write_each.Goals as goal
 
 pub loop-at-preserved : goal.loop-at-preserved
 loop-at-preserved g c =
-    let es = g.B.Block.entries c.args.block.now in
+    let es = g.B.ChangeBlock.entries c.args.block.now in
     let low : c.loop-at.at < length es = omega (arith, c.loop-at-test.true, c.many-at-end.ensures) in
     record {
       elements = write_entry es c.loop-at.at c.args.elements.now.0 c.loop-at.elements.0 c.write_entry-near.new.elements.0 low c.loop-at.invariant.elements
@@ -17,7 +17,7 @@ loop-at-preserved g c =
 
 pub returns-clause-elements : goal.returns-clause-elements
 returns-clause-elements g c =
-    let es = g.B.Block.entries c.args.block.now in
+    let es = g.B.ChangeBlock.entries c.args.block.now in
     c.loop-at.invariant.elements ∙ ap (with_all Point c.args.elements.now.0)
     (take_all c.loop-at.at es (omega (arith, c.loop-at-test.false, c.many-at-end.ensures)))
 

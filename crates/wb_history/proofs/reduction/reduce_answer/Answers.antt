@@ -4,7 +4,7 @@ use Rattle.wb_cells.specs.declared.cells.cell.Cell.TheVariants.{Object}
 use Rattle.wb_cells.specs.declared.cells.kind.Kind.{Kind}
 use Rattle.wb_cells.specs.Cells.{Name}
 use Rattle.wb_cells.specs.Readers.{elements}
-use Rattle.wb_cells.specs.declared.refusal.Refusal as why
+use Rattle.wb_cells.specs.declared.refusal.WhyRefused as why
 use Rattle.wb_edit.specs.Looks.{array_kind}
 use Rattle.wb_arrays.specs.Reductions.{reduction}
 use Rattle.wb_history.specs.Queries.{value_answer}
@@ -19,4 +19,4 @@ returns-in-Ok g c =
     let there : array_kind (get s (Object a)) ≡ Ok c.in-Ok.field-0 = sym (c.in-Ok.ensures ∙ ap array_kind c.get.ensures) in
     c.made_answer.ensures
     ∙ made_is (reduction c.args.op (elements s a)) c.reduce.result c.reduce.ensures.answer
-    ∙ sym (ap (λ (k : Result (Name × Kind) why.Refusal). value_answer (reduce_from s a c.args.op k)) there)
+    ∙ sym (ap (λ (k : Result (Name × Kind) why.WhyRefused). value_answer (reduce_from s a c.args.op k)) there)

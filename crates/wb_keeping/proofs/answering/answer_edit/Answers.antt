@@ -1,6 +1,6 @@
 use Rattle.std.proofs.Common.{◌∙◌, ap, inl}
-use Rattle.wb_protocol.specs.Requests.{request}
-use Rattle.wb_protocol.specs.declared.requests.request.Request.TheVariants.{Change}
+use Rattle.wb_requests.specs.Requests.{request}
+use Rattle.wb_requests.specs.declared.requests.request.Request.TheVariants.{Change}
 use Rattle.wb_keeping.proofs.Added.{edit_added, line_is, unbroken_line}
 use Rattle.wb_keeping.proofs.answering.answer_edit.Goals as goal
 

@@ -1,7 +1,7 @@
 use Rattle.std.proofs.Common.{rules}
-use Rattle.wb_protocol.specs.Requests.{request}
-use Rattle.wb_protocol.specs.Wire.Proper.{IsProperRequest}
-use Rattle.wb_protocol.proofs.OnTheWire.ReadProper.{read_proper}
+use Rattle.wb_requests.specs.Requests.{request}
+use Rattle.wb_requests.specs.Wire.Proper.{IsProperRequest}
+use Rattle.wb_requests.proofs.OnTheWire.ReadProper.{read_proper}
 use Rattle.wb_keeping.proofs.Added.{adds_none, answered_read, refusal_read}
 use Rattle.wb_keeping.proofs.answering.reply_to.Goals as goal
 

@@ -1,5 +1,5 @@
 use Rattle.std.proofs.Common.{◌∙◌, ap}
-use Rattle.wb_protocol.specs.Requests.{request}
+use Rattle.wb_requests.specs.Requests.{request}
 use Rattle.wb_keeping.proofs.Added.{unbroken_line, line_is, pushed}
 use Rattle.wb_keeping.proofs.lines.push_request.Goals as goal
 

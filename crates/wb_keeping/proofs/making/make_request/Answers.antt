@@ -1,6 +1,6 @@
 use Rattle.std.proofs.Common.{subst}
-use Rattle.wb_protocol.specs.Machine.{Step}
-use Rattle.wb_protocol.specs.declared.replies.reply.Reply.{Reply}
+use Rattle.wb_machine.specs.Machine.{Step}
+use Rattle.wb_machine.specs.declared.replies.reply.Reply.{Reply}
 use Rattle.wb_keeping.proofs.Regrant.{refused_true, refused_false}
 use Rattle.wb_keeping.proofs.making.make_request.Goals as goal
 

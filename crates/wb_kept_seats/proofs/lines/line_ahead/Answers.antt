@@ -1,9 +1,9 @@
 use Rattle.std.proofs.Common.{sym, subst}
 use Rattle.std.specs.Prelude.{string_bytes}
-use Rattle.wb_protocol.specs.declared.requests.request.Request.{Request}
-use Rattle.wb_protocol.specs.declared.requests.request.Request.TheVariants.{Change}
-use Rattle.wb_protocol.proofs.OnTheWire.ReadProper.{read_proper}
-use Rattle.wb_protocol.specs.Wire.Proper.{IsProperRequest}
+use Rattle.wb_requests.specs.declared.requests.request.Request.{Request}
+use Rattle.wb_requests.specs.declared.requests.request.Request.TheVariants.{Change}
+use Rattle.wb_requests.proofs.OnTheWire.ReadProper.{read_proper}
+use Rattle.wb_requests.specs.Wire.Proper.{IsProperRequest}
 use Rattle.wb_keeping.specs.Granting.Granting.{IsLineOf}
 use Rattle.wb_kept_seats.specs.Lines.{IsLineOfEdit}
 use Rattle.wb_kept_seats.proofs.lines.line_ahead.Goals as goal

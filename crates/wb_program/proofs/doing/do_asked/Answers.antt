@@ -11,14 +11,14 @@ use Rattle.wb_program.proofs.doing.do_asked.Goals as goal
 
 pub returns-else-resume-2-clause-does : goal.returns-else-resume-2-clause-does
 returns-else-resume-2-clause-does g c =
-    let both = read_and_wrote g.D.Device g.J.OpensFiles (RunsKept g.D.Device) (ran g.D.Device) c.as_str-else-resume-2.result.now c.run_kept.result c.run_kept.new.files _
-    c.run_kept.ensures.keeps in (
+    let both = read_and_wrote g.D.Device g.J.OpensFiles (RunsKept g.D.Device) (ran g.D.Device) c.as_str-else-resume-2.result.now c.run_kept_at.result c.run_kept_at.new.files _
+    c.run_kept_at.ensures.keeps in (
       both.0.0,
       both.0.1,
       (
         both.1.0,
         both.1.1,
-        subst (λ a. Does g.I.Source g.O.Sink g.N.Accepts a c.run_kept.result both.0.0 (left_in g.S.Source.remaining c.run_kept.new.reader) both.1.0) (sym c.in-RunKept.is) tt,
+        subst (λ a. Does g.I.Source g.O.Sink g.N.Accepts a c.run_kept_at.result both.0.0 (left_in g.S.Source.remaining c.run_kept_at.new.reader) both.1.0) (sym c.in-RunKept.is) tt,
       ),
     )
 
@@ -130,24 +130,24 @@ returns-in-ServeKept-clause-does g c =
 pub returns-else-resume-2-clause-keeps : goal.returns-else-resume-2-clause-keeps
 returns-else-resume-2-clause-keeps g c =
     let asked = c.in-RunKept in
-    keeps_run g.D.Device g.J.OpensFiles c.args.asked asked.journal c.as_str-else-resume-2.result.now asked.workers asked.resume c.run_kept.result c.args.files.now
-    c.run_kept.new.files _ asked.is c.if-resume-2.false c.as_str-else-resume-2.ensures c.run_kept.ensures.keeps
+    keeps_run g.D.Device g.J.OpensFiles c.args.asked asked.journal c.as_str-else-resume-2.result.now asked.workers asked.resume c.run_kept_at.result c.args.files.now
+    c.run_kept_at.new.files _ asked.is c.if-resume-2.false c.as_str-else-resume-2.ensures c.run_kept_at.ensures.keeps
 
 pub returns-then-resume-2-clause-keeps : goal.returns-then-resume-2-clause-keeps
 returns-then-resume-2-clause-keeps g c =
     let asked = c.in-RunKept in
-    keeps_begun g.D.Device g.J.OpensFiles c.args.asked asked.journal c.as_str.result.now asked.workers asked.resume c.run_resumed.result c.args.files.now
-    c.run_resumed.new.files _ asked.is c.if-resume-2.true c.as_str.ensures c.run_resumed.ensures.keeps
+    keeps_begun g.D.Device g.J.OpensFiles c.args.asked asked.journal c.as_str.result.now asked.workers asked.resume c.resume_kept_at.result c.args.files.now
+    c.resume_kept_at.new.files _ asked.is c.if-resume-2.true c.as_str.ensures c.resume_kept_at.ensures.keeps
 
 pub returns-then-resume-2-clause-does : goal.returns-then-resume-2-clause-does
 returns-then-resume-2-clause-does g c =
-    let both = began g.D.Device g.J.OpensFiles c.as_str.result.now c.run_resumed.result c.args.files.now c.run_resumed.new.files _ c.run_resumed.ensures.keeps in (
+    let both = began g.D.Device g.J.OpensFiles c.as_str.result.now c.resume_kept_at.result c.args.files.now c.resume_kept_at.new.files _ c.resume_kept_at.ensures.keeps in (
       both.0.0,
       both.0.1,
       (
         both.1.0,
         both.1.1,
-        subst (λ a. Does g.I.Source g.O.Sink g.N.Accepts a c.run_resumed.result both.0.0 (left_in g.S.Source.remaining c.run_resumed.new.reader) both.1.0)
+        subst (λ a. Does g.I.Source g.O.Sink g.N.Accepts a c.resume_kept_at.result both.0.0 (left_in g.S.Source.remaining c.resume_kept_at.new.reader) both.1.0)
             (sym c.in-RunKept.is) tt,
       ),
     )
@@ -178,7 +178,7 @@ returns-then-resume-clause-why g c one =
 pub returns-then-resume-2-clause-why : goal.returns-then-resume-2-clause-why
 returns-then-resume-2-clause-why g c one =
     let asked = c.in-RunKept in
-    kept_tells c.args.asked asked.journal asked.workers asked.resume true _ _ _ asked.is c.if-resume-2.true (c.run_resumed.ensures.why one)
+    kept_tells c.args.asked asked.journal asked.workers asked.resume true _ _ _ asked.is c.if-resume-2.true (c.resume_kept_at.ensures.why one)
 
 pub returns-else-resume-2-clause-why : goal.returns-else-resume-2-clause-why
 returns-else-resume-2-clause-why g c one =

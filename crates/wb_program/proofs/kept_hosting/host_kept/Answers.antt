@@ -1,8 +1,8 @@
 use Rattle.std.proofs.Common.{◌++◌, None, inl, inr, refl}
 use Rattle.std.proofs.KnownBytes.{Appends-trans}
-use Rattle.wb_program.specs.Doing.{listening}
+use Rattle.wb_seats.specs.Hosting.{listening}
 use Rattle.wb_program.proofs.KeptEnding.{port_not_told}
-use Rattle.wb_sessions.proofs.Sent.{no_fault_of_0}
+use Rattle.wb_statuses.proofs.Faults.{no_fault_of_0}
 use Rattle.wb_program.proofs.kept_hosting.host_kept.Goals as goal
 
 pub returns-in-Ok-clause-hosts : goal.returns-in-Ok-clause-hosts

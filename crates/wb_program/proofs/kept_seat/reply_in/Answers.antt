@@ -1,6 +1,6 @@
 use Rattle.std.proofs.Common.{refl}
-use Rattle.wb_protocol.specs.declared.replies.reply.Reply.TheVariants.{Refused}
-use Rattle.wb_program.proofs.Reading.{asked_here, refused_here}
+use Rattle.wb_machine.specs.declared.replies.reply.Reply.TheVariants.{Refused}
+use Rattle.wb_seats.proofs.Reading.{asked_here, refused_here}
 use Rattle.wb_program.proofs.kept_seat.reply_in.Goals as goal
 
 pub returns-in-Ok : goal.returns-in-Ok

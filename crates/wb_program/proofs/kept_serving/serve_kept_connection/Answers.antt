@@ -1,4 +1,4 @@
-use Rattle.wb_program.proofs.Behind.{behind_door}
+use Rattle.wb_seats.proofs.Behind.{behind_door}
 use Rattle.wb_program.proofs.kept_serving.serve_kept_connection.Goals as goal
 
 pub returns : goal.returns

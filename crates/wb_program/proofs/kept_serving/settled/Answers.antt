@@ -1,8 +1,8 @@
 use Rattle.std.proofs.Common.{[], false, inl, inr, refl, subst}
 use Rattle.std.proofs.KnownBytes.{Appends-nil}
 use Rattle.wb_desk.specs.Serving.{new_passes}
-use Rattle.wb_program.specs.Serving.{PrintsSettled}
-use Rattle.wb_program.proofs.Ending.{is_day}
+use Rattle.wb_seats.specs.Serving.{PrintsSettled}
+use Rattle.wb_seats.proofs.Ending.{is_day}
 use Rattle.wb_program.proofs.KeptEnding.{not_settled}
 use Rattle.wb_program.proofs.kept_serving.settled.Goals as goal
 

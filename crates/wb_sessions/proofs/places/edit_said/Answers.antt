@@ -1,9 +1,9 @@
 use Rattle.std.proofs.Common.{◌≡◌, ◌∙◌, IfSome, Ok, rules, subst, sym}
 use Rattle.std.specs.Cmp.Lexicographic.{other_text}
 use Rattle.wb_history.specs.Restored.{one_of}
-use Rattle.wb_protocol.specs.Requests.{request}
-use Rattle.wb_protocol.specs.declared.requests.request.Request.TheVariants.{Change}
-use Rattle.wb_protocol.specs.Histories.Text.{said}
+use Rattle.wb_requests.specs.Requests.{request}
+use Rattle.wb_requests.specs.declared.requests.request.Request.TheVariants.{Change}
+use Rattle.wb_machine.specs.Histories.Text.{said}
 use Rattle.wb_sessions.proofs.LinesLeft.{is_said, no_edit, not_said, unmarked}
 use Rattle.wb_sessions.proofs.places.edit_said.Goals as goal
 

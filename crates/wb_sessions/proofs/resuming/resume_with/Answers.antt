@@ -3,7 +3,8 @@ use Rattle.std.specs.Io.KnownBytes.{Appends, Consumes}
 use Rattle.wb_sessions.specs.Checking.{IsNoRecord}
 use Rattle.wb_sessions.specs.Resuming.{left_in, HasNoEnd, IsRecord}
 use Rattle.wb_sessions.specs.Reasons.{WhyNoOpening, look_of}
-use Rattle.wb_sessions.proofs.Telling.{no_end_of_1, no_fault_of_1, or_fault}
+use Rattle.wb_sessions.proofs.Telling.{no_end_of_1, or_fault}
+use Rattle.wb_statuses.proofs.Faults.{no_fault_of_1}
 use Rattle.wb_sessions.proofs.Opening.{nothing_more, of_none, of_some, reads_on, failed_later}
 use Rattle.wb_sessions.proofs.resuming.resume_with.Goals as goal
 

@@ -1,7 +1,7 @@
 use Rattle.std.proofs.Common.{◌∙◌, sym}
 use Rattle.wb_sessions.specs.Upgrading.{text_by_lines}
 use Rattle.wb_sessions.proofs.Fronts.{err_of, front_printed}
-use Rattle.wb_sessions.proofs.Sent.{printed, printed_at_fault, sent_whole}
+use Rattle.wb_statuses.proofs.Sent.{printed, printed_at_fault, sent_whole}
 use Rattle.wb_sessions.proofs.upgrading.tell_history.Goals as goal
 
 pub returns-then-is_err-clause-told : goal.returns-then-is_err-clause-told

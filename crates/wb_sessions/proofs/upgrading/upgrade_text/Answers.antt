@@ -1,10 +1,10 @@
 use Rattle.std.proofs.Common.{◌∙◌, None, inl, refl, subst}
 use Rattle.selective_undo.specs.History.{replay}
 use Rattle.wb_history.specs.Past.{meant}
-use Rattle.wb_protocol.specs.Encoding.Text.{objects_text}
-use Rattle.wb_protocol.proofs.Encodings.Lines.{none_some, some_same}
-use Rattle.wb_protocol.proofs.HistoryTexts.Below.{all_said}
-use Rattle.wb_sessions.specs.Checking.{IsPrinted}
+use Rattle.wb_machine.specs.Encoding.Text.{objects_text}
+use Rattle.wb_machine.proofs.Encodings.Lines.{none_some, some_same}
+use Rattle.wb_machine.proofs.HistoryTexts.Below.{all_said}
+use Rattle.wb_statuses.specs.Statuses.{IsPrinted}
 use Rattle.wb_sessions.specs.Upgrading.{loaded}
 use Rattle.wb_sessions.proofs.Loading.{by_lines, is_upgraded, made_text}
 use Rattle.wb_sessions.proofs.upgrading.upgrade_text.Goals as goal

@@ -21,7 +21,7 @@ use std::test::Fail;
 use wb_arrays::{Crew, Mover};
 use wb_history::History;
 use wb_lines::{Input, Output, SessionEnd};
-use wb_protocol::session;
+use wb_machine::session;
 
 const NO_MEMORY: &str = "{\"error\":\"E90\",\"name\":\"no-memory\"}\n";
 

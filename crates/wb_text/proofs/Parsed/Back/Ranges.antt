@@ -14,7 +14,7 @@ use Rattle.wb_literals.specs.Grammar as grammar
 use Rattle.wb_literals.specs.declared.range.RangeLiteral.{RangeLiteral}
 use Rattle.wb_literals.specs.declared.range.Upper.TheVariants.{To}
 use Rattle.wb_literals.specs.declared.rectangle.RectangleLiteral.{RectangleLiteral}
-use Rattle.wb_literals.specs.declared.rectangle.RectangleLiteral.TheVariants.{Line, Plane, Solid}
+use Rattle.wb_literals.specs.declared.rectangle.RectangleLiteral.TheVariants.{Rank1, Rank2, Rank3}
 use Rattle.wb_literals.proofs.RectangleGrammar.{rectangle_read}
 use Rattle.wb_literals.specs.Limits.Literals.{stride_in, align_in, range_within, range_of, rectangle_within, domain_within}
 use Rattle.wb_literals.proofs.WithinLimits.Within.{within}
@@ -61,10 +61,10 @@ range_back xs r =
 -- ---- rectangles
 
 pub literal_of_all : List (List ℤ) → RectangleLiteral
-literal_of_all [] = Line (literal_of [])
-literal_of_all (a ∷ []) = Line (literal_of a)
-literal_of_all (a ∷ b ∷ []) = Plane (literal_of a) (literal_of b)
-literal_of_all (a ∷ b ∷ c ∷ rs) = Solid (literal_of a) (literal_of b) (literal_of c)
+literal_of_all [] = Rank1 (literal_of [])
+literal_of_all (a ∷ []) = Rank1 (literal_of a)
+literal_of_all (a ∷ b ∷ []) = Rank2 (literal_of a) (literal_of b)
+literal_of_all (a ∷ b ∷ c ∷ rs) = Rank3 (literal_of a) (literal_of b) (literal_of c)
 
 pub rectangle_spelled : (rs : List (List ℤ)) → IsShort rs → AllByRecursion IsRange rs → grammar.IsRectangle (rectangle_text rs) (literal_of_all rs)
 unfolding literal_of_all

@@ -71,10 +71,10 @@ by_length P a b c (x ∷ y ∷ z ∷ w ∷ xs) h = let f = h.few in absurd (omeg
 -- ---- grids and points
 
 unfoldable pub grid_of : List ℤ → GridLiteral
-grid_of [] = grids.Line (pos 0)
-grid_of (n ∷ []) = grids.Line n
-grid_of (n ∷ m ∷ []) = grids.Plane n m
-grid_of (n ∷ m ∷ l ∷ ns) = grids.Solid n m l
+grid_of [] = grids.Rank1 (pos 0)
+grid_of (n ∷ []) = grids.Rank1 n
+grid_of (n ∷ m ∷ []) = grids.Rank2 n m
+grid_of (n ∷ m ∷ l ∷ ns) = grids.Rank3 n m l
 
 pub grid_spelled : (ns : List ℤ) → IsShort ns → AreWithin ns → IsGrid (integers_text ns) (grid_of ns)
 unfolding grid_of

@@ -1,5 +1,5 @@
 use Rattle.wb_dist.specs.Same.{same_box-exact}
 use Rattle.wb_cells.proofs.values.same.is_plane.Goals as goal
 
-pub returns-in-Plane : goal.returns-in-Plane
-returns-in-Plane c = rw (c.eq.ensures, c.in-Plane.is) (same_box-exact c.args.one.now c.in-Plane.rect)
+pub returns-in-Rank2 : goal.returns-in-Rank2
+returns-in-Rank2 c = rw (c.eq.ensures, c.in-Rank2.is) (same_box-exact c.args.one.now c.in-Rank2.rect)

@@ -5,7 +5,7 @@ use Rattle.std.specs.Int.{w64}
 use Rattle.wb_edit.specs.declared.operation.Operation.{Operation}
 use Rattle.wb_edit.specs.Elements.{result_of}
 use Rattle.wb_edit.specs.Numbers.{fits_integer}
-use Rattle.wb_edit.specs.Plans.{stopped}
+use Rattle.wb_edit.specs.Plans.{or_refused}
 use Rattle.wb_edit.proofs.Numbered.{not_made, next_number, halted, all_made}
 use Rattle.wb_edit.proofs.SideBySide.{fits_after}
 use Rattle.wb_edit.proofs.commands.all.numbers_made.Goals as goal
@@ -40,7 +40,7 @@ loop-p-preserved c =
     let z : ℤ = c.in_ok-made.field-0 in
     let low : k < length xs = omega (arith, c.loop-p-test.true, c.requires) in
     let here : x ≡ get_or xs k x = c.index.ensures ∙ ap (λ ms. get_or ms k x) c.loop-p.invariant.made ∙ not_made how k xs ys x c.requires in
-    let given : stopped (fits_integer (result_of how x y)) ≡ Ok z = sym c.number_made.ensures ∙ c.in_ok-made.was in
+    let given : or_refused (fits_integer (result_of how x y)) ≡ Ok z = sym c.number_made.ensures ∙ c.in_ok-made.was in
     let clean = ap (λ v. set made k v) (to_z-of_z w64 z (fits_after (result_of how x y) z given)) in
     let next = next_number how xs ys c.requires k x y x (pos 0) low here refl z made _ given c.loop-p.invariant.made c.loop-p.invariant.within clean in
     record { made = next.0; within = next.1 }

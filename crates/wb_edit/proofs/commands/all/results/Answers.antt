@@ -6,7 +6,7 @@ use Rattle.wb_cells.specs.declared.values.index.Index.{Index}
 use Rattle.wb_edit.specs.declared.operation.Operation.{Operation}
 use Rattle.wb_edit.specs.Elements.{result_of}
 use Rattle.wb_edit.specs.Numbers.{fits_integer}
-use Rattle.wb_edit.specs.Plans.{stopped}
+use Rattle.wb_edit.specs.Plans.{or_refused}
 use Rattle.wb_edit.proofs.SideBySide.{fits_after, pushed, next_result, halted, results_made}
 use Rattle.wb_edit.proofs.commands.all.results.Goals as goal
 
@@ -31,7 +31,7 @@ loop-p-preserved c =
     let made : List (Index × ℤ) = c.loop-p.made.items in
     let more : List (Index × ℤ) = c.push.new.self.items in
     let z : ℤ = c.in_ok-z.z in
-    let given : stopped (fits_integer (result_of how x.1 y.1)) ≡ Ok z = sym c.result_at.ensures ∙ c.in_ok-z.was in
+    let given : or_refused (fits_integer (result_of how x.1 y.1)) ≡ Ok z = sym c.result_at.ensures ∙ c.in_ok-z.was in
     let within_64 = fits_after (result_of how x.1 y.1) z given in
     let items : more ≡ (if is_ok c.push.result then made ++ (x.0, z) ∷ [] else made) =
     subst (λ (v : ℤ). more ≡ (if is_ok c.push.result then made ++ (x.0, v) ∷ [] else made)) (to_z-of_z w64 z within_64) c.push.ensures.items in

@@ -13,7 +13,7 @@ use Rattle.wb_edit.specs.declared.asked_rectangle.AskedRectangle.{AskedRectangle
 use Rattle.wb_edit.specs.declared.attempt_err.AttemptErr.{AttemptErr}
 use Rattle.wb_edit.specs.Commands.{fill}
 use Rattle.wb_edit.specs.Looks.{array_named}
-use Rattle.wb_edit.specs.Plans.{Attempts, Gives, stopped}
+use Rattle.wb_edit.specs.Plans.{Attempts, Gives, or_refused}
 use Rattle.wb_edit.specs.Rectangles.{ranges_of, asked_ranges, of_rank, over_rectangle, all_elements}
 use Rattle.wb_edit.specs.Trees.{Tree}
 use Rattle.wb_edit.specs.Writes.{put_all}
@@ -26,8 +26,8 @@ written a v on = put_all (map (Element a) (indices on)) (Number v)
 
 -- the tests before the elements are looked at
 reaches : (s : Cells) (a : Name) (asked : AskedRectangle) (v : ℤ) (rs ss us : List Pattern) (array : Name × Kind) (on : List Range)
-    (r : Result Changes AttemptErr) → Gives (array_named a) s rs array ss → stopped (ranges_of asked) ≡ Ok on →
-    stopped (of_rank (length on) array.1) ≡ Ok tt → Attempts (all_elements a (indices on) (λ y. write (written a v on))) s ss r us →
+    (r : Result Changes AttemptErr) → Gives (array_named a) s rs array ss → or_refused (ranges_of asked) ≡ Ok on →
+    or_refused (of_rank (length on) array.1) ≡ Ok tt → Attempts (all_elements a (indices on) (λ y. write (written a v on))) s ss r us →
     Attempts (fill a asked v) s rs r us
 reaches s a asked v rs ss us array on r named given ranked rest =
     let last : List Range → Tree = λ on. all_elements a (indices on) (λ y. write (written a v on)) in

@@ -13,5 +13,5 @@ returns-in_err-value c =
 
 pub returns : goal.returns
 returns c =
-    rw (c.stopped.ensures, c.element_or_refusal.ensures) (then_judged (read (Implicit c.args.array)) c.args.book.now.cells c.args.footprint.now
+    rw (c.or_refused.ensures, c.element_or_refusal.ensures) (then_judged (read (Implicit c.args.array)) c.args.book.now.cells c.args.footprint.now
     c.read.new.footprint element_or_refusal c.in_ok-value.value c.in_ok-value.ensures)

@@ -13,5 +13,5 @@ returns-in_err-present c =
 
 pub returns : goal.returns
 returns c =
-    rw (c.stopped.ensures, c.is_there.ensures) (then_judged (read (In c.args.domain c.args.index)) c.args.book.now.cells c.args.footprint.now
+    rw (c.or_refused.ensures, c.is_there.ensures) (then_judged (read (In c.args.domain c.args.index)) c.args.book.now.cells c.args.footprint.now
     c.read.new.footprint is_there c.in_ok-present.present c.in_ok-present.ensures)

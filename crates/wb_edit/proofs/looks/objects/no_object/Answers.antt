@@ -13,7 +13,7 @@ returns-in_ok-first-in-Ok c =
     let rs : List Pattern = c.args.footprint.now in
     let ss : List Pattern = c.keep.new.self in
     let kept : ss ≡ rs ++ Objects ∷ [] = c.in-Ok.ensures.ok in
-    rw (c.stopped.ensures, c.is_empty.ensures s c.in_ok-first-in-Ok.ensures.first) (then_judged (λ next. look Objects next) s rs ss is_empty (seen workbook Objects s)
+    rw (c.or_refused.ensures, c.is_empty.ensures s c.in_ok-first-in-Ok.ensures.first) (then_judged (λ next. look Objects next) s rs ss is_empty (seen workbook Objects s)
     (λ next. (
       refl,
       sym (append_assoc rs (Objects ∷ []) (reads (next (seen workbook Objects s)) s)) ∙

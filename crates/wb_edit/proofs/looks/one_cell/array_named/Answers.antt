@@ -13,5 +13,5 @@ returns-in_err-object c =
 
 pub returns : goal.returns
 returns c =
-    rw (c.stopped.ensures, c.array_kind.ensures) (then_judged (read (Object c.args.array)) c.args.book.now.cells c.args.footprint.now c.read.new.footprint
+    rw (c.or_refused.ensures, c.array_kind.ensures) (then_judged (read (Object c.args.array)) c.args.book.now.cells c.args.footprint.now c.read.new.footprint
     array_kind c.in_ok-object.object c.in_ok-object.ensures)

@@ -13,5 +13,5 @@ returns-in_err-element c =
 
 pub returns : goal.returns
 returns c =
-    rw (c.stopped.ensures, c.is_there.ensures) (then_judged (read (Element c.args.array c.args.index)) c.args.book.now.cells c.args.footprint.now
+    rw (c.or_refused.ensures, c.is_there.ensures) (then_judged (read (Element c.args.array c.args.index)) c.args.book.now.cells c.args.footprint.now
     c.read.new.footprint is_there c.in_ok-element.element c.in_ok-element.ensures)

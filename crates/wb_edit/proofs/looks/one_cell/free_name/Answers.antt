@@ -13,5 +13,5 @@ returns-in_err-object c =
 
 pub returns : goal.returns
 returns c =
-    rw (c.stopped.ensures, c.is_free.ensures) (then_judged (read (Object c.args.name)) c.args.book.now.cells c.args.footprint.now c.read.new.footprint is_free
+    rw (c.or_refused.ensures, c.is_free.ensures) (then_judged (read (Object c.args.name)) c.args.book.now.cells c.args.footprint.now c.read.new.footprint is_free
     c.in_ok-object.object c.in_ok-object.ensures)

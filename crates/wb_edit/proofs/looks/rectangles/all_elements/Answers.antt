@@ -14,5 +14,5 @@ returns c =
     let s = c.args.book.now.cells in
     let rs = c.args.footprint.now in
     let cs : List Cell = map (Element c.args.array) (indices c.args.on.now) in
-    rw (c.stopped.ensures, c.there_if.ensures, c.in_ok-all.ensures.present, c.in_ok-all.ensures.read)
+    rw (c.or_refused.ensures, c.there_if.ensures, c.in_ok-all.ensures.present, c.in_ok-all.ensures.read)
     (then_judged (read_all cs) s rs (rs ++ map one_of cs) all_there (map (get s) cs) (gives_all s cs rs))

@@ -4,7 +4,7 @@ use Rattle.std.specs.List.{list_all}
 use Rattle.wb_cells.specs.Shapes.{indices}
 use Rattle.wb_cells.specs.declared.cells.cell.Cell.TheVariants.{Element}
 use Rattle.wb_cells.specs.declared.values.index.Index.{Index}
-use Rattle.wb_edit.proofs.IndexedCells.{nothing_there}
+use Rattle.wb_edit.proofs.IndexedRows.{nothing_there}
 use Rattle.wb_edit.proofs.Rectangles.{whole, all_more}
 use Rattle.wb_edit.proofs.looks.rectangles.each_present.Goals.{in-Some, in-None}
 use Rattle.wb_edit.proofs.looks.rectangles.each_present.Goals as goal

@@ -13,5 +13,5 @@ returns c =
     let s = c.args.book.now.cells in
     let rs = c.args.footprint.now in
     let cs : List Cell = member_cells c.args.domains.now c.args.listed.now in
-    rw (c.stopped.ensures, c.absent_if.ensures, c.in_ok-any.ensures.there, c.in_ok-any.ensures.read)
+    rw (c.or_refused.ensures, c.absent_if.ensures, c.in_ok-any.ensures.there, c.in_ok-any.ensures.read)
     (then_judged (read_all cs) s rs (rs ++ map one_of cs) none_present (map (get s) cs) (gives_all s cs rs))

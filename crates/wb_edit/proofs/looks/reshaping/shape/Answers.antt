@@ -13,5 +13,5 @@ returns-in_err-ranges c =
 
 pub returns : goal.returns
 returns c =
-    rw (c.stopped.ensures, c.shape_in.ensures) (then_judged (read (Shape c.args.domain)) c.args.book.now.cells c.args.footprint.now c.read.new.footprint
+    rw (c.or_refused.ensures, c.shape_in.ensures) (then_judged (read (Shape c.args.domain)) c.args.book.now.cells c.args.footprint.now c.read.new.footprint
     shape_in c.in_ok-ranges.ranges c.in_ok-ranges.ensures)

@@ -16,5 +16,5 @@ returns-in_err-users c =
 pub returns : goal.returns
 returns c =
     let users : List (Name × Binding) = c.in_ok-users.users.items in
-    rw (c.stopped.ensures, c.is_unused.ensures, c.deref.ensures.value)
+    rw (c.or_refused.ensures, c.is_unused.ensures, c.deref.ensures.value)
     (then_judged (uses c.args.domain) c.args.book.now.cells c.args.footprint.now c.uses.new.footprint is_unused users c.in_ok-users.ensures.looks)

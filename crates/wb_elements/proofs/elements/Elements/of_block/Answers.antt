@@ -11,10 +11,10 @@ pub invariant_of-result : goal.invariant_of-result
 invariant_of-result g c =
     let b = c.args.block.now in
     let es = indexed Point c.in-Ok-Some.pieces.0 in
-    let are : all_set es ≡ as_changes Point (g.B.Block.entries b) = rw c.in-Ok-Some.field-0-is at c.in-Ok-Some.ensures.elements in
+    let are : all_set es ≡ as_changes Point (g.B.ChangeBlock.entries b) = rw c.in-Ok-Some.field-0-is at c.in-Ok-Some.ensures.elements in
     record {
       kept = rw c.in-Ok-Some.field-0-is at c.in-Ok-Some.ensures.kept;
-      ranged = block_keys es (g.B.Block.ranges_of b) (g.B.Block.entries b) are (c.is_whole.ensures c.if-not-is_whole.false)
+      ranged = block_keys es (g.B.ChangeBlock.ranges_of b) (g.B.ChangeBlock.entries b) are (c.is_whole.ensures c.if-not-is_whole.false)
           ∙ ap indices (sym c.over-ranges.ensures);
     }
 
@@ -22,10 +22,10 @@ pub invariant_of-result-in-Ok-Some-filled : goal.invariant_of-result-in-Ok-Some-
 invariant_of-result-in-Ok-Some-filled g c =
     let b = c.args.block.now in
     let es = indexed Point c.in-Ok-Some-filled.pieces.0 in
-    let are : all_set es ≡ as_changes Point (g.B.Block.entries b) = rw c.in-Ok-Some-filled.field-0-is at c.in-Ok-Some-filled.ensures.elements in
+    let are : all_set es ≡ as_changes Point (g.B.ChangeBlock.entries b) = rw c.in-Ok-Some-filled.field-0-is at c.in-Ok-Some-filled.ensures.elements in
     record {
       kept = rw c.in-Ok-Some-filled.field-0-is at c.in-Ok-Some-filled.ensures.kept;
-      ranged = block_keys es (g.B.Block.ranges_of b) (g.B.Block.entries b) are (c.is_whole.ensures c.if-not-is_whole.false)
+      ranged = block_keys es (g.B.ChangeBlock.ranges_of b) (g.B.ChangeBlock.entries b) are (c.is_whole.ensures c.if-not-is_whole.false)
           ∙ ap indices (sym c.over-ranges.ensures);
     }
 
@@ -33,9 +33,9 @@ pub invariant_of-result-in-Ok-Some-filled-2 : goal.invariant_of-result-in-Ok-Som
 invariant_of-result-in-Ok-Some-filled-2 g c =
     let b = c.args.block.now in
     let es = indexed Point c.in-Ok-Some-filled-2.pieces.0 in
-    let are : all_set es ≡ as_changes Point (g.B.Block.entries b) = rw c.in-Ok-Some-filled-2.field-0-is at c.in-Ok-Some-filled-2.ensures.elements in
+    let are : all_set es ≡ as_changes Point (g.B.ChangeBlock.entries b) = rw c.in-Ok-Some-filled-2.field-0-is at c.in-Ok-Some-filled-2.ensures.elements in
     record {
       kept = rw c.in-Ok-Some-filled-2.field-0-is at c.in-Ok-Some-filled-2.ensures.kept;
-      ranged = block_keys es (g.B.Block.ranges_of b) (g.B.Block.entries b) are (c.is_whole.ensures c.if-not-is_whole.false)
+      ranged = block_keys es (g.B.ChangeBlock.ranges_of b) (g.B.ChangeBlock.entries b) are (c.is_whole.ensures c.if-not-is_whole.false)
           ∙ ap indices (sym c.over-ranges.ensures);
     }

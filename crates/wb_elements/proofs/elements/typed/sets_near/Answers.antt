@@ -10,5 +10,5 @@ returns-in-Some g c =
     let k = c.args.change.now.0 in
     let es = c.args.pieces.now.0 in
     c.is_some.ensures
-    ∙ ap is_some (c.get_near-found.ensures ∙ sym (value_at-indexed g.D.Index.Ord.cmp f g.D.Index.AsIndex.is_of g.met.D.Index.AsIndex.alike es k))
+    ∙ ap is_some (c.get_from-found.ensures ∙ sym (value_at-indexed g.D.Index.Ord.cmp f g.D.Index.AsIndex.is_of g.met.D.Index.AsIndex.alike es k))
     ∙ ap (λ (o : Option ℤ). is_some o && is_some (element_at (indexed f es) (f k))) (sym c.in-Some.is)

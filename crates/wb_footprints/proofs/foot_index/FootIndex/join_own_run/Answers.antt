@@ -1,6 +1,6 @@
 use Rattle.std.proofs.lemmas.Result.{on_ok_weaker}
 use Rattle.std.specs.List.{list_any}
-use Rattle.wb_footprints.specs.Places.{cell_at}
+use Rattle.wb_cells.specs.Runs.{cell_of}
 use Rattle.wb_footprints.specs.Footprints.{marked_own}
 use Rattle.wb_footprints.proofs.Through.{wait_already, run_waits}
 use Rattle.wb_footprints.proofs.foot_index.FootIndex.join_own_run.Goals as goal
@@ -9,7 +9,7 @@ pub returns-then-has_run-clause-joined : goal.returns-then-has_run-clause-joined
 returns-then-has_run-clause-joined c =
     let m = c.args.self.now in
     let run = c.args.run in
-    wait_already c.args.waiting.now (λ n. list_any (λ p. marked_own m (cell_at run.row.kind run.row.name p) n) run.indices) c.args.after
+    wait_already c.args.waiting.now (λ n. list_any (λ p. marked_own m (cell_of run.row p) n) run.indices) c.args.after
     (run_waits m c.args.swept.now c.args.waiting.now c.args.after run c.requires (c.has_run.ensures c.if-has_run.true))
 
 pub returns-clause-joined : goal.returns-clause-joined

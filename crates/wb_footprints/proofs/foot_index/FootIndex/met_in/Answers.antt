@@ -4,8 +4,7 @@ use Rattle.std.proofs.lemmas.List.Folds.{list_any_at}
 use Rattle.selective_undo.specs.declared.Change.{Change}
 use Rattle.wb_cells.specs.declared.cells.cell.Cell.{Cell}
 use Rattle.wb_cells.specs.declared.cells.value.Value.{Value}
-use Rattle.wb_cells.specs.Runs.{changes_in}
-use Rattle.wb_footprints.specs.Places.{cell_at}
+use Rattle.wb_cells.specs.Runs.{changes_in, cell_of}
 use Rattle.wb_footprints.specs.Footprints.{any_met, met_by}
 use Rattle.wb_footprints.proofs.Meeting.{least_like, soonest}
 use Rattle.wb_footprints.proofs.RunPlaces.{any_cell}
@@ -14,9 +13,9 @@ use Rattle.wb_footprints.proofs.foot_index.FootIndex.met_in.Goals as goal
 pub returns-in-Some-clause-least : goal.returns-in-Some-clause-least
 returns-in-Some-clause-least c = λ footprints h.
     let run = c.in-Some.run' in
-    least_like (λ n. list_any (λ p. met_by (footprints n) (cell_at run.row.kind run.row.name p)) run.indices)
+    least_like (λ n. list_any (λ p. met_by (footprints n) (cell_of run.row p)) run.indices)
     (λ n. any_met (footprints n) (changes_in c.args.cells.now.form)) c.args.after c.met_together.result
-    (λ n. any_cell (met_by (footprints n)) (changes_in c.args.cells.now.form) run.row.kind run.row.name run.indices c.in-Some.ensures.cells)
+    (λ n. any_cell (met_by (footprints n)) (changes_in c.args.cells.now.form) run.row run.indices c.in-Some.ensures.cells)
     (c.met_together.ensures.least footprints h)
 
 pub returns-then-is_next-clause-least : goal.returns-then-is_next-clause-least

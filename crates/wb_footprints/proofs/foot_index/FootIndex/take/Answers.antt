@@ -12,5 +12,5 @@ returns c = λ footprints h had.
       touched = taken touched_by (λ q. refl) footprints (touched_at c.args.before.now) c.args.number (place_marked c.args.self.now.touched)
           (place_marked c.unmark_all.new.marks) f (λ q. refl) had h.touched c.unmark_all.ensures;
       read = taken read_by (λ q. refl) footprints (read_at (c.args.reads.now ++ all_read c.args.runs.now)) c.args.number (place_marked c.args.self.now.read)
-          (place_marked c.unread_all.new.marks) f (λ q. refl) had h.read c.unread_all.ensures;
+          (place_marked c.unmark_reads.new.marks) f (λ q. refl) had h.read c.unmark_reads.ensures;
     }

@@ -4,8 +4,8 @@ use Rattle.std.proofs.lemmas.List.Folds.{list_any_at}
 use Rattle.selective_undo.specs.declared.Change.{Change}
 use Rattle.wb_cells.specs.declared.cells.cell.Cell.{Cell}
 use Rattle.wb_cells.specs.declared.cells.value.Value.{Value}
-use Rattle.wb_cells.specs.Runs.{changes_in}
-use Rattle.wb_footprints.specs.Places.{own, cell_at}
+use Rattle.wb_cells.specs.Runs.{changes_in, cell_of}
+use Rattle.wb_footprints.specs.Places.{own}
 use Rattle.wb_footprints.specs.Footprints.{touched_by}
 use Rattle.wb_footprints.proofs.Meeting.{least_like, soonest}
 use Rattle.wb_footprints.proofs.RunPlaces.{any_cell}
@@ -15,9 +15,9 @@ pub returns-in-Some : goal.returns-in-Some
 returns-in-Some c = λ footprints h.
     let run = c.in-Some.run' in
     let xs = changes_in c.args.cells.now.form in
-    least_like (λ n. list_any (λ p. touched_by (footprints n) (own (cell_at run.row.kind run.row.name p))) run.indices)
+    least_like (λ n. list_any (λ p. touched_by (footprints n) (own (cell_of run.row p))) run.indices)
     (λ n. list_any (λ x. touched_by (footprints n) (own x.cell)) xs) c.args.after c.touched_together.result
-    (λ n. any_cell (λ x. touched_by (footprints n) (own x)) xs run.row.kind run.row.name run.indices c.in-Some.ensures.cells)
+    (λ n. any_cell (λ x. touched_by (footprints n) (own x)) xs run.row run.indices c.in-Some.ensures.cells)
     (c.touched_together.ensures footprints h)
 
 pub returns-then-is_next : goal.returns-then-is_next

@@ -1,7 +1,7 @@
 use Rattle.std.proofs.Common.{refl, sym, subst}
 use Rattle.wb_desk.specs.Serving.{AnswersCourse}
-use Rattle.wb_protocol.specs.declared.replies.reply.Reply.{Reply}
-use Rattle.wb_protocol.specs.declared.requests.request.Request.{Request}
+use Rattle.wb_requests.specs.declared.requests.request.Request.{Request}
+use Rattle.wb_machine.specs.declared.replies.reply.Reply.{Reply}
 use Rattle.wb_kept_seats.specs.KeptCourses.{KeptCourse, kept_course}
 use Rattle.wb_kept_seats.specs.Answering.{AnswersKept}
 use Rattle.wb_kept_seats.proofs.Answering.{answered, kept_answered}

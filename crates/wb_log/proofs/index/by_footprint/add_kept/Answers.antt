@@ -1,4 +1,4 @@
-use Rattle.std.proofs.Common.{◌++◌, Some, subst, sym, ap, ◌∙◌}
+use Rattle.std.proofs.Common.{◌++◌, Some, subst}
 use Rattle.std.proofs.lemmas.Result.{on_ok_weaker}
 use Rattle.wb_cells.specs.Reads.{all_read}
 use Rattle.wb_footprints.specs.Footprints.{IsIndexOf, footprint, with_footprint}

@@ -1,4 +1,4 @@
-use Rattle.std.proofs.Common.{◌++◌, Some, None, refl, sym, ap, ◌∙◌}
+use Rattle.std.proofs.Common.{◌++◌, Some, None, sym, ap, ◌∙◌}
 use Rattle.wb_cells.specs.Reads.{all_read}
 use Rattle.wb_footprints.specs.Footprints.{footprint, with_footprint}
 use Rattle.wb_log.specs.Records.{lent_footprint}

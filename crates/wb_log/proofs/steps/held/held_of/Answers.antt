@@ -1,5 +1,5 @@
-use Rattle.std.proofs.Common.{sym, ap, subst, ◌∙◌}
-use Rattle.selective_undo.specs.Changes.{inverse, AllOnce}
+use Rattle.std.proofs.Common.{sym, subst}
+use Rattle.selective_undo.specs.Changes.{AllOnce}
 use Rattle.selective_undo.proofs.AllOrNothing.{once-inverse}
 use Rattle.wb_cells.specs.Cells.{cell_cmp}
 use Rattle.wb_log.proofs.steps.held.held_of.Goals as goal

@@ -1,7 +1,7 @@
 use Rattle.std.proofs.Common.{◌≡◌, take}
 use Rattle.selective_undo.specs.Changes.{inverse}
 use Rattle.wb_cells.specs.Runs.{packed_changes}
-use Rattle.wb_cells.specs.declared.changes.row.Row.TheVariants.{Elements}
+use Rattle.wb_cells.specs.declared.changes.row.IndexedRow.TheVariants.{Elements}
 use Rattle.wb_log.proofs.steps.held.numbers_at.Given as goal
 
 -- what the elements so far are

@@ -2,7 +2,7 @@ use Rattle.std.proofs.Common.{◌≡◌, ◌++◌, [], ◌∷◌, ℕ, ℤ, List
 use Rattle.std.specs.List.{All}
 use Rattle.wb_sets.specs.Labels.{IsLabel}
 use Rattle.wb_cells.specs.declared.changes.labels.LabelEntry.{LabelEntry}
-use Rattle.wb_cells.specs.declared.changes.row.Row.{Row}
+use Rattle.wb_cells.specs.declared.changes.row.IndexedRow.{IndexedRow}
 use Rattle.wb_cells.specs.Labelled.{entries_in, IsKept}
 use Rattle.wb_cells.proofs.Labels.{grown, as_it_was, same_entries, all_kept_with, one_entry_more}
 use Rattle.wb_cells.proofs.changes.labels.LabelChanges.push.Goals as goal
@@ -60,4 +60,4 @@ returns-clause-added c = λ said.
     ∙ ap (λ (xs : List LabelEntry). (row, entries_in (bytes ++ text) xs)) more
     ∙ ap (λ (xs : List (List ℕ × Option ℤ)). (row, xs)) (one_entry_more bytes text es e n c.self.invariant start c.in-Some.ensures.len c.in-Some.ensures.number)
     ∙ ap (λ (t : List ℕ). (row, entries_in bytes es ++ (t, n) ∷ [])) is
-    ∙ ap (λ (w : Row × List (List ℕ × Option ℤ)). (w.0, w.1 ++ (c.args.label.now, n) ∷ [])) c.self.view_is
+    ∙ ap (λ (w : IndexedRow × List (List ℕ × Option ℤ)). (w.0, w.1 ++ (c.args.label.now, n) ∷ [])) c.self.view_is

@@ -3,7 +3,7 @@ use Rattle.wb_reshape.specs.declared.operand.Operand.{Operand}
 use Rattle.wb_cells.specs.Cells.{Name}
 use Rattle.wb_cells.specs.Shapes.{Range}
 use Rattle.wb_edit.specs.Trees.{Tree, judged}
-use Rattle.wb_edit.specs.Plans.{stopped}
+use Rattle.wb_edit.specs.Plans.{or_refused}
 use Rattle.wb_edit.specs.Reshaping.{shape, reshaped}
 use Rattle.wb_edit.specs.Sources.{gives_rectangle, ranges_given, slice_of}
 use Rattle.wb_edit.proofs.Attempts.{goes_on, passes}
@@ -22,7 +22,7 @@ returns c =
     let ws = c.plan_reshaped.new.footprint in
     let r = c.plan_reshaped.result in
     let last : List Range → List Range → Tree = λ old by. judged (slice_of old by) (λ new. reshaped d old new) in
-    let made : stopped (slice_of old by) ≡ Ok c.in_ok-new.new = sym (c.stopped.ensures ∙ ap (λ j. stopped j) c.slice_of.ensures) ∙ c.in_ok-new.was in
+    let made : or_refused (slice_of old by) ≡ Ok c.in_ok-new.new = sym (c.or_refused.ensures ∙ ap (λ j. or_refused j) c.slice_of.ensures) ∙ c.in_ok-new.was in
     goes_on (gives_rectangle c.args.rank given) s c.args.footprint.now ss (λ x. shape d (λ old. ranges_given given (last old))) tt r ws
     c.in_ok-gives_rectangle.ensures (
     goes_on (shape d) s ss us (λ old. ranges_given given (last old)) old r ws c.in_ok-old.ensures (

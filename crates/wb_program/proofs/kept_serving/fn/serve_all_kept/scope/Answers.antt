@@ -1,7 +1,7 @@
 use Rattle.std.proofs.Common.{◌≡◌, ◌<◌, ◌+◌, ◌∙◌, get_or, length, vec_items, vec_len, arith, below_more, rules, ap, subst, sym}
 use Rattle.std.proofs.lemmas.Option.{slice_get_within}
 use Rattle.std.specs.Vec.Iter.{into_iter_items}
-use Rattle.wb_program.proofs.Seated.{IsSeated, later, seated, came_back}
+use Rattle.wb_seats.proofs.Seated.{IsSeated, later, seated, came_back}
 use Rattle.wb_program.proofs.kept_serving.fn.serve_all_kept.scope.Goals as goal
 
 pub loop-pass-preserved : goal.loop-pass-preserved

@@ -1,6 +1,6 @@
 use Rattle.std.proofs.Common.{◌≡◌, ℕ, ◌+◌, ◌<◌, get_or, vec_items, vec_len}
 use Rattle.std.specs.Vec.Iter.{into_iter_items, into_iter_len}
-use Rattle.wb_program.proofs.Seated.{IsSeated}
+use Rattle.wb_seats.proofs.Seated.{IsSeated}
 use Rattle.wb_program.proofs.kept_serving.fn.serve_all_kept.scope.Given as goal
 
 -- as many connections came as threads were started, and each is that of the pass at its place

@@ -1,4 +1,0 @@
-use Rattle.wb_footprints.proofs.blocks.Blocks.add.Goals as goal
-
-pub returns-in-Some : goal.returns-in-Some
-returns-in-Some c = c.add_at.ensures c.args.block.indices c.in-Some.ensures.1

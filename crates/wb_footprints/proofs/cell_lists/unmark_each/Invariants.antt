@@ -1,9 +1,0 @@
-use Rattle.std.proofs.Common.{take}
-use Rattle.wb_cells.specs.Runs.{changes_in}
-use Rattle.wb_footprints.specs.Relation.{Clears}
-use Rattle.wb_footprints.specs.Places.{place_marked}
-use Rattle.wb_footprints.specs.Footprints.{marked_at}
-use Rattle.wb_footprints.proofs.cell_lists.unmark_each.Given as goal
-
-abbrev pub invariant-loop-at : goal.invariant-loop-at
-invariant-loop-at l = Clears (place_marked l.initial.marks) (place_marked l.marks) (marked_at l.marking (take l.at (changes_in l.cells.form))) l.number

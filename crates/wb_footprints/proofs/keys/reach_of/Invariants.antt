@@ -1,5 +1,0 @@
-use Rattle.std.proofs.Common.{◌-◌}
-use Rattle.wb_footprints.proofs.keys.reach_of.Given as goal
-
-abbrev pub decreases-loop-reach : goal.decreases-loop-reach
-decreases-loop-reach l = l.width - l.reach

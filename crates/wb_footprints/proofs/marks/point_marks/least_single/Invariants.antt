@@ -1,0 +1,14 @@
+use Rattle.std.proofs.Common.{◌-◌, ◌≤◌, length, take}
+use Rattle.std.specs.List.{list_any}
+use Rattle.wb_footprints.specs.Relation.{IsLeastAfter}
+use Rattle.wb_footprints.specs.PointMarks.{at_single}
+use Rattle.wb_footprints.proofs.marks.point_marks.least_single.Given as goal
+
+abbrev pub invariant-loop-at : goal.invariant-loop-at
+invariant-loop-at l = record {
+  within : l.at ≤ length l.points;
+  least : IsLeastAfter (λ n. list_any (λ p. at_single l.marks p n) (take l.at l.points)) l.after l.first;
+}
+
+abbrev pub decreases-loop-at : goal.decreases-loop-at
+decreases-loop-at l = length l.points - l.at

@@ -1,0 +1,8 @@
+use Rattle.std.specs.List.{list_any}
+use Rattle.wb_footprints.specs.Groups.{in_groups}
+use Rattle.wb_footprints.proofs.InReach.{IsLeftToJoin, any_asked}
+use Rattle.wb_footprints.proofs.marks.reach_marks.ReachMarks.join_in.Given as goal
+
+abbrev pub invariant-loop-blocks : goal.invariant-loop-blocks
+invariant-loop-blocks l = IsLeftToJoin l.initial.waiting l.waiting (any_asked l.indices l.blocks-iterator)
+    (λ n. list_any (λ p. in_groups l.self.groups.entries p n) l.indices) l.after

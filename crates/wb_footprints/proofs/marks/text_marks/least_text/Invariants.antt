@@ -1,0 +1,15 @@
+use Rattle.std.proofs.Common.{◌-◌, ◌≤◌, length, take}
+use Rattle.std.specs.List.{list_any}
+use Rattle.wb_footprints.specs.Relation.{IsLeastAfter}
+use Rattle.wb_footprints.specs.Marks.{marked}
+use Rattle.wb_footprints.specs.Texts.{text_cmp}
+use Rattle.wb_footprints.proofs.marks.text_marks.least_text.Given as goal
+
+abbrev pub invariant-loop-at : goal.invariant-loop-at
+invariant-loop-at l = record {
+  within : l.at ≤ length l.labels;
+  least : IsLeastAfter (λ n. list_any (λ p. marked text_cmp l.marks p n) (take l.at l.labels)) l.after l.first;
+}
+
+abbrev pub decreases-loop-at : goal.decreases-loop-at
+decreases-loop-at l = length l.labels - l.at

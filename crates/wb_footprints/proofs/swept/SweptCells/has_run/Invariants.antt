@@ -1,5 +1,0 @@
-use Rattle.std.specs.Prelude.{⊤}
-use Rattle.wb_footprints.proofs.swept.SweptCells.has_run.Given as goal
-
-abbrev pub invariant-loop-kept : goal.invariant-loop-kept
-invariant-loop-kept l = ⊤

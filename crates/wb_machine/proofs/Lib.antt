@@ -1,0 +1,4 @@
+pub mod Encodings
+pub mod Pieces
+pub mod Texts
+pub mod HistoryTexts

@@ -1,4 +1,0 @@
-pub mod Written
-pub mod Lines
-pub mod Commands
-pub mod Loads

@@ -1,7 +1,0 @@
-use Rattle.std.proofs.Common.{◌≡◌, drop, map}
-use Rattle.std.specs.List.{list_all}
-use Rattle.wb_protocol.specs.Explained.{has}
-use Rattle.wb_protocol.proofs.explaining.keys.all_have.Given as goal
-
-abbrev pub invariant-loop-keys : goal.invariant-loop-keys
-invariant-loop-keys l = list_all (λ f. has f l.fn.key) (map (λ f. map (λ k. k.now) f.now) (drop l.keys-index l.forms)) ≡ list_all (λ f. has f l.fn.key) (map (λ f. map (λ k. k.now) f.now) l.forms)

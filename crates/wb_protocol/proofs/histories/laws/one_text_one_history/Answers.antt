@@ -1,5 +1,0 @@
-use Rattle.wb_protocol.proofs.HistoryTexts.Same.{one_history}
-use Rattle.wb_protocol.proofs.histories.laws.one_text_one_history.Goals as goal
-
-pub returns : goal.returns
-returns c = one_history

@@ -1,5 +1,0 @@
-use Rattle.wb_protocol.proofs.OnTheWire.Explained.{tells_the_least}
-use Rattle.wb_protocol.proofs.wire.laws.explains_the_least.Goals as goal
-
-pub returns : goal.returns
-returns c = tells_the_least

@@ -1,4 +1,0 @@
-pub mod Values
-pub mod Table
-pub mod Encoded
-pub mod Text

@@ -1,0 +1,7 @@
+pub mod Encodings
+pub mod Counts
+pub mod Told
+pub mod Puts
+pub mod Several
+pub mod Lines
+pub mod OnTheWire

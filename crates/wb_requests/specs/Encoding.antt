@@ -1,0 +1,3 @@
+pub mod Values
+pub mod Table
+pub mod Encoded

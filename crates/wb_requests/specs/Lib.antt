@@ -1,0 +1,9 @@
+pub mod Encoding
+pub mod Answers
+pub mod Fields
+pub mod Literals
+pub mod Sources
+pub mod Requests
+pub mod Wire
+pub mod Explained
+pub mod Said

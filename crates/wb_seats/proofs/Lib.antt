@@ -1,0 +1,5 @@
+pub mod Reading
+pub mod Behind
+pub mod Seated
+pub mod Ending
+pub mod PortNotTold

@@ -1,2 +1,0 @@
-pub mod KeptStays
-pub mod Stays
