@@ -1,99 +1,32 @@
 -- A history is made again edit by edit.
-use Rattle.std.proofs.Common.{◌≡◌, ℕ, suc, ◌+◌, Bool, true, false, List, [], ◌∷◌, ◌++◌, length, refl, sym, ap, ◌∙◌, subst, Option, Some, None, is_some}
-use Rattle.std.proofs.Common.{option_map, Result, Ok, Err, IsOk, OnOk, OnErr, slice_get, arith, inl, inr}
+use Rattle.std.proofs.Common.{◌≡◌, ℕ, ◌+◌, Bool, true, false, List, [], ◌∷◌, ◌++◌, length, refl, sym, ap, ◌∙◌, subst, Option, Some, None}
+use Rattle.std.proofs.Common.{Ok, Err, IsOk, arith}
 use Rattle.std.specs.Prelude.{min, ◌-◌, ◌^◌}
 use Rattle.std.proofs.Math.Nat.{sub-add-min_cancel}
-use Rattle.selective_undo.specs.Edit.{Schema, State, Change, Edit, Trace, outcome, written, trace, step}
-use Rattle.selective_undo.specs.History.{Entry, done, undone, replay_from, traces_from, replay, traces, InForce, IsLegal}
-use Rattle.selective_undo.specs.Log.{Logged, IsKept, history, entry_of, footprints, footprint_of}
-use Rattle.selective_undo.proofs.Log.{append-map, last_or, get-map}
+use Rattle.selective_undo.specs.Edit.{Schema, Change, Edit, Trace, outcome, written, trace, step}
+use Rattle.selective_undo.specs.History.{Entry, done, undone, traces_from, replay, traces, InForce, IsLegal}
+use Rattle.selective_undo.proofs.Log.{append-map}
 use Rattle.std.specs.FinMap.{empty}
-use Rattle.wb_cells.specs.Cells.{Cells, count_of, saturating_add}
+use Rattle.wb_cells.specs.Cells.{count_of, saturating_add}
 use Rattle.wb_edit.specs.declared.edit.Edit as command
 use Rattle.wb_cells.specs.Schema.{workbook}
 use Rattle.wb_edit.specs.Edits.{meaning}
-use Rattle.wb_edit.specs.Edits.{IsValid}
-use Rattle.wb_log.specs.declared.entry.Entry as kept
 use Rattle.wb_edit.specs.declared.refusal.Refusal.{Refusal}
 use Rattle.wb_edit.specs.declared.refusal.Refusal.TheVariants.{BadRequest, BadLiteral, Refused, NoSuchEdit, NotInForce, InForce as IsInForce, Blocked}
 use Rattle.wb_edit.specs.declared.refusal.Refusal.TheVariants.{RefusedInPlace, NoMemory, StrangePass}
 use Rattle.wb_history.specs.declared.restore.RestoreErr.{RestoreErr}
 use Rattle.wb_history.specs.declared.restore.RestoreErr.TheVariants.{NotLegal, NoMemory as NoRoom}
-use Rattle.wb_log.specs.Past.{Numbered, Past, entry_at, meant, AreValid}
-use Rattle.wb_log.specs.Kept.{logged, log, Shows, numbered, numbered_entries}
-use Rattle.wb_log.specs.declared.index.Index.{Index}
-use Rattle.wb_log.specs.Indexed.{IsIndexed}
+use Rattle.wb_log.specs.Past.{Numbered, Past, entry_at, meant}
 use Rattle.wb_log.specs.Replies.{EditReply}
-use Rattle.wb_history.specs.Restored.{stopped, one_of, numbered_at, marked, cells_written, IsCounted, BeginsNone, RestoreReply}
-use Rattle.wb_log.proofs.Entered.{more_indexed}
-use Rattle.wb_log.proofs.Valid.{valid_append}
-use Rattle.wb_log.proofs.Entries.{numbers_more}
+use Rattle.wb_history.specs.Restored.{stopped, one_of, marked, cells_written, IsCounted, BeginsNone, RestoreReply}
+use Rattle.wb_log.proofs.Appended.{follows}
 
 -- ---- one history after another
 
 module _ {w : Schema} where
-  follows : (h k : List (Entry w)) (s : State w)
-      → (replay_from (h ++ k) s ≡ replay_from k (replay_from h s)) × (traces_from (h ++ k) s ≡ traces_from h s ++ traces_from k (replay_from h s))
-  follows [] k s = (refl, refl)
-  follows (done e ∷ h) k s = let rest = follows h k (step e s) in (rest.0, ap (λ ts. Some (trace e s) ∷ ts) rest.1)
-  follows (undone e ∷ h) k s = let rest = follows h k s in (rest.0, ap (λ ts. None ∷ ts) rest.1)
-
   seam : (ts us : List (Option (Trace w))) (t : Trace w) → InForce (ts ++ Some t ∷ us) (length ts) t
   seam [] us t = refl
   seam (x ∷ ts) us t = seam ts us t
-
-  no_more : (ts : List (Option (Trace w))) (j : ℕ) (u : Trace w) → InForce (ts ++ None ∷ []) j u → InForce ts j u
-  no_more ts j u is =
-      elim (last_or ts None (Some u) j is) [
-        | inl last ↦ cc
-        | inr old ↦ old
-      ]
-
-  -- an edit comes in out of force
-  kept_aside : (s : State w) (log : List (Logged w)) (e : Edit w) → IsKept s log → IsKept s (log ++ record { edit = e; kept = None } ∷ [])
-  kept_aside s log e kept =
-      let more : Logged w = record { edit = e; kept = None } in
-      let h = history log in
-      let now_is : history (log ++ more ∷ []) ≡ h ++ undone e ∷ [] = append-map entry_of log (more ∷ []) in
-      let after = follows h (undone e ∷ []) empty in
-      record {
-        legal = λ j u is. kept.legal j u (no_more (traces h) j u (subst (λ ts. InForce ts j u) (ap traces now_is ∙ after.1) is));
-        shown = kept.shown ∙ sym (ap replay now_is ∙ after.0);
-        footprints = append-map (λ x. x.kept) log (more ∷ []) ∙ ap (λ fs. fs ++ None ∷ []) kept.footprints
-            ∙ sym (ap (λ g. footprints (traces g)) now_is ∙ ap footprints after.1 ∙ append-map (option_map footprint_of) (traces h) (None ∷ []));
-      }
-
-shows_aside : (s : Cells) (es : List kept.Entry) (e : command.Edit) → Shows es s → Shows (es ++ record { edit = e; kept = None } ∷ []) s
-shows_aside s es e shows =
-    let x : kept.Entry = record { edit = e; kept = None } in
-    subst (λ l. IsKept {w = workbook} s l) (sym (append-map logged es (x ∷ []))) (kept_aside s (log es) (meaning e) shows)
-
-pub shows_aside_by : {X E : Type 0} (s : Cells) (es fs : List kept.Entry) (e : command.Edit) (r : Result X E) → Shows es s →
-    OnOk r (fs ≡ es ++ record { edit = e; kept = None } ∷ []) → OnErr r (fs ≡ es) → Shows fs s
-shows_aside_by s es fs e (Ok x) shows more stay = subst (λ gs. Shows gs s) (sym more) (shows_aside s es e shows)
-shows_aside_by s es fs e (Err x) shows more stay = subst (λ gs. Shows gs s) (sym stay) shows
-
-valid_aside : (es : List kept.Entry) (e : command.Edit) → AreValid (numbered_entries es) → IsValid e →
-    AreValid (numbered_entries (es ++ record { edit = e; kept = None } ∷ []))
-valid_aside es e valid here =
-    let x : kept.Entry = record { edit = e; kept = None } in
-    subst AreValid (sym (numbers_more es x)) (valid_append (numbered_entries es) (numbered x) valid here)
-
-pub valid_aside_by : {X E : Type 0} (es fs : List kept.Entry) (e : command.Edit) (r : Result X E) → AreValid (numbered_entries es) → IsValid e →
-    OnOk r (fs ≡ es ++ record { edit = e; kept = None } ∷ []) → OnErr r (fs ≡ es) → AreValid (numbered_entries fs)
-valid_aside_by es fs e (Ok x) valid here more stay = subst (λ gs. AreValid (numbered_entries gs)) (sym more) (valid_aside es e valid here)
-valid_aside_by es fs e (Err x) valid here more stay = subst (λ gs. AreValid (numbered_entries gs)) (sym stay) valid
-
-pub indexed_aside_by : {X E : Type 0} (x : Index) (es fs : List kept.Entry) (e : command.Edit) (r : Result X E) → IsIndexed x es →
-    OnOk r (fs ≡ es ++ record { edit = e; kept = None } ∷ []) → OnErr r (fs ≡ es) → IsIndexed x fs
-indexed_aside_by x es fs e (Ok y) h more stay = subst (λ gs. IsIndexed x gs) (sym more) (more_indexed x es (record { edit = e; kept = None }) h)
-indexed_aside_by x es fs e (Err y) h more stay = subst (λ gs. IsIndexed x gs) (sym stay) h
-
--- ---- the entry of a number
-
-pub entry_of_number : (es : List kept.Entry) (x : kept.Entry) (n : ℕ) → slice_get es n ≡ Some x →
-    Some (one_of x.edit (is_some x.kept)) ≡ numbered_at (numbered_entries es) (suc n)
-entry_of_number es x n at = sym (get-map numbered es n ∙ ap (option_map numbered) at)
 
 -- ---- counts
 

@@ -1,4 +1,4 @@
-ghost use Rattle.std.specs.Prelude.{◌≡◌, ℕ, ◌+◌, ◌-◌, ◌<◌, ◌≤◌, length, take, [], ◌∷◌, ◌++◌, OnOk, OnErr, IfOk, IfErr, Ok, Err, true, false, option_map};
+ghost use Rattle.std.specs.Prelude.{◌≡◌, ℕ, ◌+◌, ◌-◌, ◌<◌, ◌≤◌, length, take, [], ◌∷◌, ◌++◌, OnOk, OnErr, IfOk, IfErr, IfSome, IfNone, None, Ok, Err, true, false, option_map};
 ghost use Rattle.selective_undo.specs.History.{replay, IsLegal};
 ghost use Rattle.wb_cells.specs.Cells.{saturating_add};
 ghost use Rattle.wb_edit.specs.Edits.{meaning, note_of};
@@ -20,41 +20,29 @@ use std::marker::Model;
 use wb_arrays::Mover;
 use wb_book::Book;
 use wb_edit::{Edit, Note, Query, Refusal};
-use wb_log::{Index, LentEdit, Record, Undoer, steps};
+use wb_log::{LentEdit, Log, Undoer};
 use wb_range::NoMemory;
 
-/// A workbook, and the edits that made it, each in force or out of force.
+/// A workbook, and the edits that made it, each in force or out of force. An edit has a number, from 1.
 pub struct History {
-    alloc: Global,
-    book: Book,
-    entries: Vec<Record>,
-    index: Index,
+    log: Log,
 }
 
-// In a function of its own, so that a crate above need not prove anew how each field is let go.
+// In a function of its own, so that a crate above need not prove anew how its field is let go.
 impl Drop for History {
     fn drop(self) {
-        let History {
-            alloc: _,
-            book: _,
-            entries: _,
-            index: _,
-        } = self;
+        let History { log: _ } = self;
     }
 }
 
 impl Model for History {
     ghost use Rattle.wb_log.specs.Past.{Past, past_code};
-    ghost use Rattle.wb_log.specs.Kept.{numbered_entries};
-    ghost use Rattle.wb_log.specs.Indexed.{Keeps};
 
     ghost Value = { Past };
 
     ghost coded = { past_code };
 
-    ghost view = { λ a. record { entries = numbered_entries a.entries.items; writes = a.book.writes } };
-
-    ghost invariant = { λ a. Keeps a.entries.items a.book.cells a.index };
+    ghost view = { λ a. a.log };
 }
 
 impl History {
@@ -63,18 +51,30 @@ impl History {
         ensures { result ≡ record { entries = []; writes = 0 } }
     {
         History {
-            alloc,
-            book: Book::new(alloc),
-            entries: Vec::new(alloc),
-            index: Index::new(alloc),
+            log: Log::new(alloc),
         }
+    }
+
+    // The place of the edit of a number: none has the number 0, or one above their count.
+    fn place_of(&self, number: u64) -> Option<usize>
+        ensures there { IfSome result (λ at. (0 < number) × (at ≡ number - 1) × (at < length self.now.entries)) }
+        ensures none { IfNone result (numbered_at self.now.entries number ≡ None) }
+    {
+        if number == 0 {
+            return None;
+        }
+        let at = (number - 1) as usize;
+        if at >= self.log.len() {
+            return None;
+        }
+        Some(at)
     }
 
     /// How many edits there are, in force and out of force.
     pub fn len(&self) -> u64
         ensures { result ≡ length self.now.entries }
     {
-        self.entries.len() as u64
+        self.log.len() as u64
     }
 
     /// The workbook: what the edits in force make of an empty one, each accepted in its place.
@@ -83,7 +83,7 @@ impl History {
         ensures cells { result.now.cells ≡ replay (meant self.now.entries) }
         ensures writes { result.now.writes ≡ self.now.writes }
     {
-        &self.book
+        self.log.book()
     }
 
     /// Makes an edit: its number, from 1, and how many cells it changes.
@@ -93,9 +93,7 @@ impl History {
         ensures writes { IfOk result (λ r. self.new.writes ≡ saturating_add self.old.writes r.1) }
         ensures err { OnErr result (self.new ≡ self.old) }
     {
-        // For the proof: what every edit is, which the entries are to keep.
-        edit.validity();
-        steps::edit::add(self.alloc, &mut self.book, &mut self.entries, edit, mover)
+        self.log.add(edit, mover)
     }
 
     /// Undoes the edit of a number, where no later edit in force needs it.
@@ -107,20 +105,10 @@ impl History {
         ensures writes { IfOk result (λ n. self.new.writes ≡ saturating_add self.old.writes n) }
         ensures err { OnErr result (self.new ≡ self.old) }
     {
-        if number == 0 {
-            return Err(Refusal::NoSuchEdit);
+        match self.place_of(number) {
+            None => Err(Refusal::NoSuchEdit),
+            Some(at) => self.log.undo_at(at, mover),
         }
-        let at = (number - 1) as usize;
-        if at >= self.entries.len() {
-            return Err(Refusal::NoSuchEdit);
-        }
-        steps::undo::undo_at(
-            &mut self.book,
-            &mut self.entries,
-            &mut self.index,
-            at,
-            mover,
-        )
     }
 
     /// Undoes the latest edit in force: its number, and how many cells it sets back.
@@ -132,7 +120,7 @@ impl History {
         ensures writes { IfOk result (λ r. self.new.writes ≡ saturating_add self.old.writes r.1) }
         ensures err { OnErr result (self.new ≡ self.old) }
     {
-        steps::undo::undo_latest(&mut self.book, &mut self.entries, &mut self.index, mover)
+        self.log.undo_latest(mover)
     }
 
     /// The numbers of the edits that have to be undone with the edit of a number, from the greatest down.
@@ -141,14 +129,10 @@ impl History {
         ensures why { IfErr result (λ e. OfNumber (DependentsReply (meant self.old.entries)) number (Err e)) }
         ensures stays { self.new ≡ self.old }
     {
-        if number == 0 {
-            return Err(Refusal::NoSuchEdit);
+        match self.place_of(number) {
+            None => Err(Refusal::NoSuchEdit),
+            Some(at) => self.log.dependents_at(at),
         }
-        let at = (number - 1) as usize;
-        if at >= self.entries.len() {
-            return Err(Refusal::NoSuchEdit);
-        }
-        steps::cascade::dependents_at(&self.entries, &mut self.index, at)
     }
 
     /// Undoes the edit of a number with all that need it, from the greatest down, each by an undo that is granted on its
@@ -175,21 +159,10 @@ impl History {
         // After a refusal nothing has changed.
         ensures err { OnErr result (self.new ≡ self.old) }
     {
-        if number == 0 {
-            return Err(Refusal::NoSuchEdit);
+        match self.place_of(number) {
+            None => Err(Refusal::NoSuchEdit),
+            Some(at) => self.log.cascade_at(at, undoer, mover),
         }
-        let at = (number - 1) as usize;
-        if at >= self.entries.len() {
-            return Err(Refusal::NoSuchEdit);
-        }
-        steps::cascade::cascade_at(
-            undoer,
-            &mut self.book,
-            &mut self.entries,
-            &mut self.index,
-            at,
-            mover,
-        )
     }
 
     /// What `cascade` does, where `dependents` answered these numbers: how many of them are undone, from the first, and how
@@ -219,15 +192,8 @@ impl History {
         // Without memory nothing has changed.
         ensures err { OnErr result (self.new ≡ self.old) }
     {
-        steps::cascade::undo_listed(
-            undoer,
-            &mut self.book,
-            &mut self.entries,
-            &mut self.index,
-            (number - 1) as usize,
-            listed,
-            mover,
-        )
+        let at = (number - 1) as usize;
+        self.log.undo_listed(at, listed, undoer, mover)
     }
 
     /// Redoes the edit of a number in its own place, where no later edit in force is in its way.
@@ -238,35 +204,20 @@ impl History {
         ensures writes { IfOk result (λ n. self.new.writes ≡ saturating_add self.old.writes n) }
         ensures err { OnErr result (self.new ≡ self.old) }
     {
-        if number == 0 {
-            return Err(Refusal::NoSuchEdit);
+        match self.place_of(number) {
+            None => Err(Refusal::NoSuchEdit),
+            Some(at) => self.log.redo_at(at, mover),
         }
-        let at = (number - 1) as usize;
-        if at >= self.entries.len() {
-            return Err(Refusal::NoSuchEdit);
-        }
-        steps::redo::redo_at(
-            self.alloc,
-            &mut self.book,
-            &mut self.entries,
-            &mut self.index,
-            at,
-            mover,
-        )
     }
 
     /// Whether the edit of a number is in force.
     pub fn in_force(&self, number: u64) -> Option<bool>
         ensures { result ≡ force_of self.now.entries number }
     {
-        if number == 0 {
-            return None;
+        match self.place_of(number) {
+            None => None,
+            Some(at) => Some(self.log.is_in_force(at)),
         }
-        let at = (number - 1) as usize;
-        if at >= self.entries.len() {
-            return None;
-        }
-        Some(self.entries[at].is_in_force())
     }
 
     /// The edit of a number, and whether it is in force; none where no edit has the number. `NoMemory` where none is left for
@@ -274,17 +225,12 @@ impl History {
     pub fn edit_at(&self, number: u64) -> Result<Option<(LentEdit<'_>, bool)>, NoMemory>
         ensures { IfOk result (λ found. option_map (λ x. one_of (lent_edit x.0) x.1) found ≡ numbered_at self.now.entries number) }
     {
-        if number == 0 {
-            return Ok(None);
-        }
-        let at = (number - 1) as usize;
-        if at >= self.entries.len() {
-            return Ok(None);
-        }
-        let entry = &self.entries[at];
-        match entry.edit(self.alloc) {
-            Ok(edit) => Ok(Some((edit, entry.is_in_force()))),
-            Err(why) => Err(why),
+        match self.place_of(number) {
+            None => Ok(None),
+            Some(at) => match self.log.edit_at(at) {
+                Ok(edit) => Ok(Some((edit, self.log.is_in_force(at)))),
+                Err(why) => Err(why),
+            },
         }
     }
 
@@ -292,14 +238,10 @@ impl History {
     fn note_at(&self, number: u64) -> Option<Option<&Note>>
         ensures { option_map (λ n. option_map (λ m. m.now) n) result ≡ option_map (λ x. note_of x.edit) (numbered_at self.now.entries number) }
     {
-        if number == 0 {
-            return None;
+        match self.place_of(number) {
+            None => None,
+            Some(at) => Some(self.log.note_at(at)),
         }
-        let at = (number - 1) as usize;
-        if at >= self.entries.len() {
-            return None;
-        }
-        Some(self.entries[at].note())
     }
 
     /// Takes an edit in as the last one, out of force: nothing is tried or made.
@@ -308,9 +250,7 @@ impl History {
         ensures writes { self.new.writes ≡ self.old.writes }
         ensures err { OnErr result (self.new ≡ self.old) }
     {
-        // For the proof: what every edit is, which the entries are to keep.
-        aside.validity();
-        steps::aside::keep_aside(self.alloc, &mut self.entries, aside)
+        self.log.append_undone(aside)
     }
 
     /// What a query is answered, from the workbook as it is; `NoMemory` may stand for a piece or a note, and for nothing else. A
@@ -324,10 +264,15 @@ impl History {
             Query::Where(domain, index) => {
                 locale_answer(locale_of(self.book(), *domain, *index))
             }
-            Query::Piece(array, locale) => piece_answer(self.alloc, self.book(), *array, *locale),
+            Query::Piece(array, locale) => piece_answer(
+                self.log.alloc(),
+                self.book(),
+                *array,
+                *locale,
+            ),
             Query::Reduce(array, op) => reduce_answer(self.book(), *array, *op, mover),
             Query::State(number) => force_answer(self.in_force(*number)),
-            Query::Note(number) => note_answer(self.alloc, self.note_at(*number)),
+            Query::Note(number) => note_answer(self.log.alloc(), self.note_at(*number)),
         }
     }
 }

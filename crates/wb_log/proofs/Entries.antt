@@ -17,6 +17,7 @@ use Rattle.wb_log.specs.declared.entry.Entry as kept
 use Rattle.wb_log.specs.declared.entry.Kept.{Kept}
 use Rattle.wb_edit.specs.declared.refusal.Refusal.{Refusal}
 use Rattle.wb_edit.specs.declared.refusal.Refusal.TheVariants.{NotInForce, Blocked, NoMemory}
+use Rattle.wb_log.specs.Cascades.{IsFree}
 use Rattle.wb_log.specs.Past.{entry_at, out_of_force}
 use Rattle.wb_log.specs.Replies.{UndoReply, EditReply}
 use Rattle.wb_log.specs.Kept.{footprint, kept_in, kept_all, logged, log, Shows, numbered, numbered_entries, entries_meant, undo_blocker, MayUndo, TakenBack}
@@ -99,6 +100,13 @@ module _ (es : List kept.Entry) (k : ℕ) (x : kept.Entry) (is : slice_get es k 
 
   log_is : (f : Footprint workbook) → kept_in x ≡ Some f → slice_get (log es) k ≡ Some (record { edit = meaning x.edit; kept = Some f })
   log_is f has = log_at es k x is ∙ ap (λ o. Some (record { edit = meaning x.edit; kept = o })) has
+
+  -- what is kept tells that it may be undone
+  pub may_free : (s : _) → Shows es s → MayUndo es k None → IsFree (entries_meant es) k
+  may_free s shows may =
+      let (f, is_f, none) = free_now may in
+      let before = (kept_undo s (log es) k (k + 2) (meaning x.edit) f shows (log_is f is_f) none).0 in
+      rw (← history-log es) (before.0, before.1)
 
   same_footprint : (q : Kept) (f : Footprint workbook) → x.kept ≡ Some q → kept_in x ≡ Some f → f ≡ footprint q.footprint q.inverse
   same_footprint q f has is_f = let h : option_map (λ k. footprint k.footprint k.inverse) x.kept ≡ Some (footprint q.footprint q.inverse) =

@@ -25,12 +25,12 @@ redo_meant k [] = refl
 redo_meant zero (x ∷ es) = elim x.in_force as (λ b. redo zero (entry_at x.edit b ∷ meant es) ≡ entry_at x.edit true ∷ meant es) [ true ↦ refl | false ↦ refl ]
 redo_meant (suc k) (x ∷ es) = ap (λ h. entry_at x.edit x.in_force ∷ h) (redo_meant k es)
 
-module _ (s : Cells) (es fs : List kept.Entry) (shows : Shows es s) where
+module _ (s : Cells) (es : List kept.Entry) (fs : List Numbered) (shows : Shows es s) where
   legal : IsLegal (entries_meant es)
   legal = subst IsLegal (history-log es) shows.legal
 
-  pub sets_back : (k : ℕ) (r : Result ℕ Refusal) → UndoReply (entries_meant es) k r → OnOk r (numbered_entries fs ≡ out_of_force k (numbered_entries es)) →
-      OnOk r (SetsBack (entries_meant es) k (entries_meant fs))
+  pub sets_back : (k : ℕ) (r : Result ℕ Refusal) → UndoReply (entries_meant es) k r → OnOk r (fs ≡ out_of_force k (numbered_entries es)) →
+      OnOk r (SetsBack (entries_meant es) k (meant fs))
   sets_back k (Ok n) (t, can, count) is = λ u there c.
       let P : List (Entry workbook) → Type 0 = λ h. SetsBack (entries_meant es) k h in
       let law : SetsBack (entries_meant es) k (undo k (entries_meant es)) =
@@ -38,23 +38,23 @@ module _ (s : Cells) (es fs : List kept.Entry) (shows : Shows es s) where
       subst P (undo_meant k (numbered_entries es) ∙ sym (ap meant is)) law u there c
   sets_back k (Err why) reply is = tt
 
-  pub leaves_others : (k : ℕ) (r : Result ℕ Refusal) → UndoReply (entries_meant es) k r → OnOk r (numbered_entries fs ≡ out_of_force k (numbered_entries es)) →
-      OnOk r (LeavesOthers (entries_meant es) k (entries_meant fs))
+  pub leaves_others : (k : ℕ) (r : Result ℕ Refusal) → UndoReply (entries_meant es) k r → OnOk r (fs ≡ out_of_force k (numbered_entries es)) →
+      OnOk r (LeavesOthers (entries_meant es) k (meant fs))
   leaves_others k (Ok n) (t, can, count) is = ap traces (ap meant is ∙ sym (undo_meant k (numbered_entries es))) ∙
       (undo_law workbook (entries_meant es) k t legal can).same_traces
   leaves_others k (Err why) reply is = tt
 
   pub restores : (r : Result (ℕ × ℕ) Refusal) → LastReply (entries_meant es) r →
-      IfOk r (λ q. numbered_entries fs ≡ out_of_force (q.0 - 1) (numbered_entries es)) → IfOk r (λ q. Restores (entries_meant es) (q.0 - 1) (entries_meant fs))
+      IfOk r (λ q. fs ≡ out_of_force (q.0 - 1) (numbered_entries es)) → IfOk r (λ q. Restores (entries_meant es) (q.0 - 1) (meant fs))
   restores (Ok (number, n)) (j, is_number, last, (t, can, count)) is =
       let here : number - 1 ≡ j = omega (arith, is_number) in
       let law = (last_law workbook (entries_meant es) j t can.in_force last).1 in
-      subst (λ k. numbered_entries fs ≡ out_of_force k (numbered_entries es) → Restores (entries_meant es) k (entries_meant fs)) (sym here)
+      subst (λ k. fs ≡ out_of_force k (numbered_entries es) → Restores (entries_meant es) k (meant fs)) (sym here)
       (λ now. ap (λ ns. replay (meant ns)) now ∙ ap replay (sym (undo_meant j (numbered_entries es))) ∙ law) is
   restores (Err why) reply is = tt
 
-  pub redoes_in_place : (k : ℕ) (r : Result ℕ Refusal) → RedoReply (entries_meant es) k r → OnOk r (numbered_entries fs ≡ into_force k (numbered_entries es)) →
-      OnOk r (RedoesInPlace (entries_meant es) k (entries_meant fs))
+  pub redoes_in_place : (k : ℕ) (r : Result ℕ Refusal) → RedoReply (entries_meant es) k r → OnOk r (fs ≡ into_force k (numbered_entries es)) →
+      OnOk r (RedoesInPlace (entries_meant es) k (meant fs))
   redoes_in_place k (Ok n) (t, can, count) is = λ e out.
       let law = (redo_law workbook (entries_meant es) k t legal can).same_traces in
       let same : can.edit ≡ e = same_edit (sym can.out_of_force ∙ out) in

@@ -1,3 +1,4 @@
+pub mod Seen
 pub mod Entries
 pub mod Numbers
 pub mod Redone
@@ -16,3 +17,5 @@ pub mod Covered
 pub mod Straight
 pub mod Alike
 pub mod Held
+pub mod Free
+pub mod Appended

@@ -1,6 +1,6 @@
 -- A redo over the entries of the code.
-use Rattle.std.proofs.Common.{if◌then◌else◌, ◌≡◌, ℕ, zero, suc, ◌+◌, ◌-◌, ◌<◌, Bool, true, false, List, [], ◌∷◌, map, length, drop, refl, sym, ap, ◌∙◌, subst}
-use Rattle.std.proofs.Common.{Option, Some, None, is_some, option_map, Result, Ok, Err, slice_get, slice_set, arith, add-one}
+use Rattle.std.proofs.Common.{if◌then◌else◌, ◌≡◌, ℕ, zero, suc, ◌+◌, ◌-◌, Bool, true, false, List, [], ◌∷◌, map, length, drop, refl, sym, ap, ◌∙◌, subst}
+use Rattle.std.proofs.Common.{Option, Some, None, is_some, option_map, Ok, Err, slice_get, slice_set, arith, add-one}
 use Rattle.std.specs.FinMap.{get}
 use Rattle.std.specs.List.{filter}
 use Rattle.selective_undo.specs.Changes.{apply, inverse}
@@ -19,10 +19,9 @@ use Rattle.wb_edit.specs.declared.planning.PlanErr.{PlanErr}
 use Rattle.wb_edit.specs.declared.planning.PlanErr.TheVariants.{Refused as PlanRefused, NoMemory as PlanNoMemory}
 use Rattle.wb_log.specs.declared.entry.Entry as kept
 use Rattle.wb_log.specs.declared.entry.Kept.{Kept}
-use Rattle.wb_edit.specs.declared.refusal.Refusal.{Refusal}
 use Rattle.wb_edit.specs.declared.refusal.Refusal.TheVariants.{InForce, Blocked, RefusedInPlace, NoMemory}
-use Rattle.wb_log.specs.Past.{entry_at, into_force, force_of}
-use Rattle.wb_log.specs.Replies.{RedoReply, ByNumber}
+use Rattle.wb_log.specs.Past.{entry_at, into_force}
+use Rattle.wb_log.specs.Replies.{RedoReply}
 use Rattle.wb_log.specs.Kept.{footprint, kept_all, logged, log, Shows, numbered, numbered_entries, entries_meant, redo_blocker, in_place, stopped_refusal}
 use Rattle.wb_log.specs.Kept.{PlansAgain}
 
@@ -166,15 +165,3 @@ module _ (s : Cells) (es : List kept.Entry) (k : ℕ) (z : kept.Entry) (shows : 
   pub redone_numbers : (y : kept.Entry) → y ≡ record { edit = z.edit; kept = Some (record { footprint = rs; inverse = inverse xs s }) } →
       numbered_entries (slice_set es k y) ≡ into_force k (numbered_entries es)
   redone_numbers y entry = rw entry (in_numbers es k z (record { footprint = rs; inverse = inverse xs s }) is)
-
-pub by_number : (Reply : ℕ → Result ℕ Refusal → Type 0) (n : ℕ) (r : Result ℕ Refusal) → 0 < n → Reply (n - 1) r → ByNumber Reply n r
-by_number Reply zero r some reply = absurd (omega (arith, some))
-by_number Reply (suc k) r some reply = let e : suc k - 1 ≡ k = omega arith in subst (λ m. Reply m r) e reply
-
-pub force_is : (es : List kept.Entry) (n : ℕ) (x : kept.Entry) → 0 < n → slice_get es (n - 1) ≡ Some x →
-    Some (is_some x.kept) ≡ force_of (numbered_entries es) n
-force_is es zero x some is = absurd (omega (arith, some))
-force_is es (suc k) x some is =
-    let e : suc k - 1 ≡ k = omega arith in
-    let at : slice_get es k ≡ Some x = subst (λ m. slice_get es m ≡ Some x) e is in
-    sym (ap (option_map (λ y. y.in_force)) (get-map numbered es k ∙ ap (option_map numbered) at))

@@ -1,6 +1,6 @@
 -- Undos one after another.
-use Rattle.std.proofs.Common.{◌≡◌, ◌≢◌, ℕ, zero, suc, ◌+◌, ◌-◌, ◌^◌, ◌<◌, ◌≤◌, Bool, true, false, List, [], ◌∷◌, ◌++◌, length, take, drop, Some, None, is_some}
-use Rattle.std.proofs.Common.{option_map, Result, Ok, Err, IfOk, IfErr, slice_get, arith, refl, sym, ap, ◌∙◌, subst}
+use Rattle.std.proofs.Common.{◌≡◌, ◌≢◌, ℕ, zero, suc, ◌+◌, ◌-◌, ◌^◌, ◌<◌, ◌≤◌, true, false, List, [], ◌∷◌, ◌++◌, length, take, drop, Some, None, is_some}
+use Rattle.std.proofs.Common.{option_map, Ok, Err, slice_get, arith, refl, sym, ap, ◌∙◌, subst}
 use Rattle.std.specs.Prelude.{min}
 use Rattle.std.proofs.Math.Nat.{sub-add-min_cancel}
 use Rattle.std.proofs.lemmas.List.{take-append-drop}
@@ -11,13 +11,12 @@ use Rattle.wb_cells.specs.Cells.{saturating_add}
 use Rattle.wb_cells.specs.Schema.{workbook}
 use Rattle.wb_edit.specs.Edits.{meaning}
 use Rattle.wb_log.specs.declared.entry.Entry as kept
-use Rattle.wb_edit.specs.declared.refusal.Refusal.{Refusal}
 use Rattle.wb_edit.specs.declared.refusal.Refusal.TheVariants.{NotInForce, NoMemory}
 use Rattle.wb_log.specs.Past.{Numbered, meant, entry_at, out_of_force, AreValid}
 use Rattle.wb_log.specs.Replies.{UndoReply}
 use Rattle.wb_log.specs.Kept.{numbered_entries, numbered, entries_meant, log, footprint, by_number, Shows}
 use Rattle.wb_log.specs.Needed.{AreFromFootprints}
-use Rattle.wb_log.specs.Cascades.{DependentsReply, CascadeReply, places, touched, set_back, all_out_of_force, IsRisen, AreUndone, OfNumber}
+use Rattle.wb_log.specs.Cascades.{DependentsReply, CascadeReply, places, touched, set_back, all_out_of_force, IsRisen, AreUndone}
 use Rattle.wb_log.proofs.Depending.{by_traces, are_dependents}
 use Rattle.wb_log.proofs.Entries.{history-log, log_at}
 use Rattle.wb_log.proofs.Granted.{undo_meant}
@@ -146,36 +145,15 @@ take_some ns zero some low = absurd (omega (arith, some))
 take_some [] (suc i) some low = absurd (omega (arith, low))
 take_some (n ∷ ns) (suc i) some low = λ e. cc
 
-module _ (es : List kept.Entry) (k : ℕ) (all : List ℕ) (i w n v : ℕ) (fs : List Numbered) (some : 0 < i) (low : i ≤ length all)
-    (h : AreUndone (numbered_entries es) w (take i all) fs n v) where
-  pub cascade_reply : DependentsReply (entries_meant es) k (Ok all) → CascadeReply (entries_meant es) k (Ok (take i all, n))
+module _ (es : List Numbered) (k : ℕ) (all : List ℕ) (i w n v : ℕ) (fs : List Numbered) (some : 0 < i) (low : i ≤ length all)
+    (h : AreUndone es w (take i all) fs n v) where
+  pub cascade_reply : DependentsReply (meant es) k (Ok all) → CascadeReply (meant es) k (Ok (take i all, n))
   cascade_reply due = (
     take_some all i some low,
-    (drop i all, subst (λ (ns : List ℕ). DependentsReply (entries_meant es) k (Ok ns)) (sym (take-append-drop i all)) due),
+    (drop i all, subst (λ (ns : List ℕ). DependentsReply (meant es) k (Ok ns)) (sym (take-append-drop i all)) due),
     h.granted,
     h.count,
   )
 
-  pub cascade_writes : v ≡ saturating_add w (set_back (entries_meant es) (places (take i all)))
-  cascade_writes = risen_some (take i all) w (set_back (entries_meant es) (places (take i all))) v (take_some all i some low) h.writes
-
--- ---- by number
-
-of_number : {Y : Type 0} (Reply : ℕ → Result Y Refusal → Type 0) (n : ℕ) (r : Result Y Refusal) → 0 < n → Reply (n - 1) r → OfNumber Reply n r
-of_number Reply zero r some h = absurd (omega (arith, some))
-of_number Reply (suc k) r some h = let here : suc k - 1 ≡ k = omega arith in subst (λ (j : ℕ). Reply j r) here h
-
-pub ok_of_number : {X Y : Type 0} (Reply : ℕ → Result Y Refusal → Type 0) (f : X → Y) (n : ℕ) (r : Result X Refusal) → 0 < n →
-    IfOk r (λ x. Reply (n - 1) (Ok (f x))) → IfOk r (λ x. OfNumber Reply n (Ok (f x)))
-ok_of_number Reply f n (Ok x) some h = of_number Reply n (Ok (f x)) some h
-ok_of_number Reply f n (Err e) some h = tt
-
-pub err_of_number : {X Y : Type 0} (Reply : ℕ → Result Y Refusal → Type 0) (n : ℕ) (r : Result X Refusal) → 0 < n → IfErr r (λ e. Reply (n - 1) (Err e)) →
-    IfErr r (λ e. OfNumber Reply n (Err e))
-err_of_number Reply n (Ok x) some h = tt
-err_of_number Reply n (Err e) some h = of_number Reply n (Err e) some h
-
-pub whole_of_number : {X : Type 0} (es : List (Entry workbook)) (f : X → List ℕ) (n : ℕ) (wanted : Bool) (r : Result X Refusal) → 0 < n →
-    IfOk r (λ x. wanted ≡ false → DependentsReply es (n - 1) (Ok (f x))) → IfOk r (λ x. wanted ≡ false → OfNumber (DependentsReply es) n (Ok (f x)))
-whole_of_number es f n wanted (Ok x) some h = λ off. of_number (DependentsReply es) n (Ok (f x)) some (h off)
-whole_of_number es f n wanted (Err e) some h = tt
+  pub cascade_writes : v ≡ saturating_add w (set_back (meant es) (places (take i all)))
+  cascade_writes = risen_some (take i all) w (set_back (meant es) (places (take i all))) v (take_some all i some low) h.writes

@@ -12,11 +12,8 @@ use Rattle.selective_undo.proofs.Log.{cases_lt}
 use Rattle.selective_undo.proofs.Undo.{undo_law, still}
 use Rattle.wb_cells.specs.Cells.{Cells}
 use Rattle.wb_cells.specs.Schema.{workbook}
-use Rattle.wb_log.specs.declared.entry.Entry as kept
 use Rattle.wb_log.specs.Past.{Numbered, meant, entry_at, out_of_force}
-use Rattle.wb_log.specs.Kept.{numbered, numbered_entries, entries_meant, Shows}
 use Rattle.wb_log.specs.Cascades.{IsDependent, DependentsReply, IsFree, OthersStay, OtherCellsStay, places, all_out_of_force}
-use Rattle.wb_log.proofs.Entries.{history-log}
 use Rattle.wb_log.proofs.Granted.{undo_meant}
 use Rattle.wb_log.proofs.Undoings.{undo_all, left_meant}
 
@@ -78,12 +75,11 @@ in_history (done e ∷ h) s (suc k) t is = let less = in_history h (step e s) k 
 in_history (undone e ∷ h) s zero t is = omega arith
 in_history (undone e ∷ h) s (suc k) t is = let less = in_history h s k t is in omega (arith, less)
 
-pub free_in_log : (es : List kept.Entry) (k : ℕ) → IsFree (entries_meant es) k → k < length es
-free_in_log es k (t, can) =
-    let less = in_history (entries_meant es) _ k t can.in_force in
-    let one = length-map (numbered_entries es) (λ x. entry_at x.edit x.in_force) in
-    let two = length-map es numbered in
-    omega (arith, less, one, two)
+pub free_in_past : (es : List Numbered) (k : ℕ) → IsFree (meant es) k → k < length es
+free_in_past es k (t, can) =
+    let less = in_history (meant es) _ k t can.in_force in
+    let same = length-map es (λ x. entry_at x.edit x.in_force) in
+    omega (arith, less, same)
 
 -- ---- what they leave
 
@@ -114,23 +110,19 @@ all_cells h (k ∷ ks) legal ((u, may), can) = λ c spared.
     (λ m v has is. spared m v (inr has) (still (traces h) k m v (subst (λ ts. InForce ts m v) after.same_traces is)))
     ∙ one ∙ ap (λ b. if b then get (state_before k h) c else get (replay h) c) off
 
-module _ (s : Cells) (es : List kept.Entry) (shows : Shows es s) where
-  legal : IsLegal (entries_meant es)
-  legal = subst IsLegal (history-log es) shows.legal
+module _ (es : List Numbered) (legal : IsLegal (meant es)) where
+  pub listed_free : (k : ℕ) (ns : List ℕ) → DependentsReply (meant es) k (Ok ns) → CanUndoAll (meant es) (places ns)
+  listed_free k ns due = all_free (meant es) k ns legal due
 
-  pub listed_free : (k : ℕ) (ns : List ℕ) → DependentsReply (entries_meant es) k (Ok ns) → CanUndoAll (entries_meant es) (places ns)
-  listed_free k ns due = all_free (entries_meant es) k ns legal due
+  module _ (fs : List Numbered) (ns : List ℕ) (can : CanUndoAll (meant es) (places ns)) (out : fs ≡ all_out_of_force ns es) where
+    left : undo_all (places ns) (meant es) ≡ meant fs
+    left = left_meant ns es ∙ sym (ap meant out)
 
-  module _ (fs : List kept.Entry) (ns : List ℕ) (can : CanUndoAll (entries_meant es) (places ns))
-      (out : numbered_entries fs ≡ all_out_of_force ns (numbered_entries es)) where
-    left : undo_all (places ns) (entries_meant es) ≡ entries_meant fs
-    left = left_meant ns (numbered_entries es) ∙ sym (ap meant out)
+    pub others_left : OthersStay (meant es) (places ns) (meant fs)
+    others_left = subst (OthersStay (meant es) (places ns)) left (all_others (meant es) (places ns) legal can)
 
-    pub others_left : OthersStay (entries_meant es) (places ns) (entries_meant fs)
-    others_left = subst (OthersStay (entries_meant es) (places ns)) left (all_others (entries_meant es) (places ns) legal can)
-
-    pub cells_left : OtherCellsStay (entries_meant es) (places ns) (entries_meant fs)
-    cells_left = subst (OtherCellsStay (entries_meant es) (places ns)) left (all_cells (entries_meant es) (places ns) legal can)
+    pub cells_left : OtherCellsStay (meant es) (places ns) (meant fs)
+    cells_left = subst (OtherCellsStay (meant es) (places ns)) left (all_cells (meant es) (places ns) legal can)
 
 -- ---- all of them
 

@@ -14,13 +14,13 @@ use wb_range::NoMemory;
 
 /// Sets of elements at points of one rank, in order, each by its point and the number that the element becomes.
 #[derive(Drop)]
-pub struct PointSets<const R: usize> {
+pub(crate) struct PointSets<const R: usize> {
     pub(crate) sets: Vec<([i64; R], i64)>,
 }
 
 /// Sets of elements, in order.
 #[derive(Drop)]
-pub enum SetList {
+pub(crate) enum SetList {
     /// At integers.
     Rank1(PointSets<1>),
     /// At pairs.
@@ -31,7 +31,7 @@ pub enum SetList {
 
 /// Sets of elements of one array as one edit, with a note. Contracts see the edit.
 #[derive(Drop)]
-pub struct ArraySets {
+pub(crate) struct ArraySets {
     array: Name,
     list: SetList,
     note: Option<Note>,

@@ -12,7 +12,7 @@ use wb_cells::{Changes, Pattern, ReadRun};
 /// What the cells held, one at least, that an edit changed which looked at one pattern and then at the cell, for each cell in
 /// turn. The cells are the pattern's and their own, so they are kept once. Contracts see what is kept of the edit.
 #[derive(Drop)]
-pub struct CellsWere {
+pub(crate) struct CellsWere {
     first: [Pattern; 1],
     cells: [ReadRun; 1],
 }

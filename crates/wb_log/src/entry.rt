@@ -28,21 +28,21 @@ use wb_range::NoMemory;
 
 /// What an edit in force read, and what takes it back.
 #[derive(Drop)]
-pub struct Kept {
-    pub footprint: ReadFootprint,
-    pub inverse: Inverse,
+pub(crate) struct Kept {
+    pub(crate) footprint: ReadFootprint,
+    pub(crate) inverse: Inverse,
 }
 
 /// An edit, with what is kept of it while it is in force.
 #[derive(Drop)]
-pub struct Entry {
-    pub edit: Edit,
-    pub kept: Option<Kept>,
+pub(crate) struct Entry {
+    pub(crate) edit: Edit,
+    pub(crate) kept: Option<Kept>,
 }
 
 /// What a cell held before an edit that changed no other.
 #[derive(Clone, Copy)]
-pub enum Before {
+pub(crate) enum Before {
     /// A number.
     Number(i64),
     /// That an index is there.
@@ -53,7 +53,7 @@ pub enum Before {
 
 /// What a cell held, while the edit is in force, in the room of a `Before`.
 #[derive(Clone, Copy)]
-pub enum Was {
+pub(crate) enum Was {
     /// The edit is out of force.
     Untold,
     /// A number.
@@ -66,7 +66,7 @@ pub enum Was {
 
 /// A new value of an element that was there, and what it was, while the edit is in force.
 #[derive(Drop)]
-pub struct Element {
+pub(crate) struct Element {
     pub(crate) array: Name,
     pub(crate) place: AnyIndex,
     pub(crate) value: i64,
@@ -75,7 +75,7 @@ pub struct Element {
 
 /// An element that became another one and a number more, and what it was, while the edit is in force.
 #[derive(Drop)]
-pub struct Copied {
+pub(crate) struct Copied {
     pub(crate) array: Name,
     pub(crate) place: AnyIndex,
     pub(crate) source: Name,
@@ -86,7 +86,7 @@ pub struct Copied {
 
 /// A new implicit value of an array, and what it was, while the edit is in force.
 #[derive(Drop)]
-pub struct Implicit {
+pub(crate) struct Implicit {
     pub(crate) array: Name,
     pub(crate) value: i64,
     pub(crate) was: Was,
@@ -94,7 +94,7 @@ pub struct Implicit {
 
 /// An index that came to a domain over which no array is, or left it, and what was there, while the edit is in force.
 #[derive(Drop)]
-pub struct Member {
+pub(crate) struct Member {
     pub(crate) domain: Name,
     pub(crate) place: AnyIndex,
     pub(crate) comes: bool,
@@ -103,7 +103,7 @@ pub struct Member {
 
 /// A number as the element at the one index of a rectangle, and what it was, while the edit is in force.
 #[derive(Drop)]
-pub struct Filled {
+pub(crate) struct Filled {
     pub(crate) array: Name,
     pub(crate) on: AnyRect,
     pub(crate) value: i64,
@@ -112,7 +112,7 @@ pub struct Filled {
 
 /// Sets of elements of one array as one edit, and what the elements were, while the edit is in force.
 #[derive(Drop)]
-pub struct Sets {
+pub(crate) struct Sets {
     pub(crate) edit: ArraySets,
     pub(crate) were: Option<CellsWere>,
 }
@@ -120,7 +120,7 @@ pub struct Sets {
 /// How an entry is kept. Of all forms but the last, what the edit read, and what takes it back, follow from what the cells held
 /// that it changed: one, or of sets as one edit as many as there are.
 #[derive(Drop)]
-pub enum Form {
+pub(crate) enum Form {
     /// A new value of an element that was there.
     Set(Element),
     /// A copy of an element that was there to one that was there.
@@ -138,7 +138,7 @@ pub enum Form {
 }
 
 /// An entry, kept in the form that takes the least room. Contracts see the entry.
-pub struct Record {
+pub(crate) struct Record {
     pub(crate) form: Form,
 }
 
@@ -179,7 +179,7 @@ impl<'a> LentEdit<'a> {
 
 /// What is kept of an edit in force, lent, or made for the moment.
 #[derive(Drop)]
-pub enum LentFootprint<'a> {
+pub(crate) enum LentFootprint<'a> {
     Set([Pattern; 2], Inverse),
     Copy([Pattern; 4], Inverse),
     Irv([Pattern; 1], Inverse),
@@ -191,7 +191,7 @@ pub enum LentFootprint<'a> {
 
 impl<'a> LentFootprint<'a> {
     /// Patterns, and runs of those behind them, that name the same places and cells as those that the edit read.
-    pub fn reads(&self) -> (&[Pattern], &[ReadRun])
+    pub(crate) fn reads(&self) -> (&[Pattern], &[ReadRun])
         ensures { NameAlike (lent_footprint self.now).reads (result.0.now ++ all_read result.1.now) }
     {
         match self {
@@ -206,7 +206,7 @@ impl<'a> LentFootprint<'a> {
     }
 
     /// The cells that the edit wrote, each once, with what they were.
-    pub fn before(&self) -> &Changes
+    pub(crate) fn before(&self) -> &Changes
         ensures same { result.now ≡ (lent_footprint self.now).touched }
         ensures once { AllOnce cell_cmp (lent_footprint self.now).touched }
     {
@@ -485,7 +485,7 @@ impl Record {
     }
 
     /// An edit out of force; `NoMemory` where none is left for one that isn't a new value of an element or of an array.
-    pub fn aside(alloc: Global, edit: Edit) -> Result<Record, NoMemory>
+    pub(crate) fn aside(alloc: Global, edit: Edit) -> Result<Record, NoMemory>
         ensures { IfOk result (λ x. x ≡ record { edit = edit; kept = None }) }
     {
         match form_aside(alloc, edit) {
@@ -495,7 +495,7 @@ impl Record {
     }
 
     /// The edit; `NoMemory` where none is left for several commands that are made for the moment.
-    pub fn edit(&self, alloc: Global) -> Result<LentEdit<'_>, NoMemory>
+    pub(crate) fn edit(&self, alloc: Global) -> Result<LentEdit<'_>, NoMemory>
         ensures { IfOk result (λ e. lent_edit e ≡ self.now.edit) }
     {
         match &self.form {
@@ -513,7 +513,7 @@ impl Record {
     }
 
     /// The note of the edit, if it has one.
-    pub fn note(&self) -> Option<&Note>
+    pub(crate) fn note(&self) -> Option<&Note>
         ensures { option_map (λ n. n.now) result ≡ note_of self.now.edit }
     {
         match &self.form {
@@ -524,7 +524,7 @@ impl Record {
     }
 
     /// Whether the edit is in force.
-    pub fn is_in_force(&self) -> bool
+    pub(crate) fn is_in_force(&self) -> bool
         ensures { result ≡ is_some self.now.kept }
     {
         match &self.form {
@@ -539,7 +539,7 @@ impl Record {
     }
 
     /// What is kept of the edit, if it is in force.
-    pub fn kept(&self) -> Option<LentFootprint<'_>>
+    pub(crate) fn kept(&self) -> Option<LentFootprint<'_>>
         ensures { option_map lent_footprint result ≡ kept_in self.now }
     {
         match &self.form {
@@ -591,7 +591,7 @@ impl Record {
 
     /// Nothing is kept any more: the edit is out of force.
     #[tactic(auto, using(crate::proofs::Numbers::none_kept))]
-    pub fn end(&mut self)
+    pub(crate) fn end(&mut self)
         ensures { self.new ≡ record { edit = self.old.edit; kept = None } }
     {
         self.form.keep(None);

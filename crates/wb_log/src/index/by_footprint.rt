@@ -19,7 +19,7 @@ use wb_range::NoMemory;
 
 /// An index of the footprints of the first `entered` edits.
 #[derive(Drop)]
-pub struct ByFootprint {
+pub(crate) struct ByFootprint {
     alloc: Global,
     index: FootIndex,
     entered: usize,
@@ -27,7 +27,7 @@ pub struct ByFootprint {
 
 impl ByFootprint {
     /// No edit has entered.
-    pub fn new(alloc: Global) -> ByFootprint
+    pub(crate) fn new(alloc: Global) -> ByFootprint
         ensures { (count : ℕ) (footprints : Footprints) → footprints 0 ≡ None → IsByFootprint result count footprints }
     {
         ByFootprint {
@@ -69,7 +69,7 @@ impl ByFootprint {
     }
 
     /// The number of the first edit after a place that needs one that wrote the cells.
-    pub fn first_to_block_undo(
+    pub(crate) fn first_to_block_undo(
         &mut self,
         entries: &[Record],
         at: usize,
@@ -90,7 +90,7 @@ impl ByFootprint {
     }
 
     /// The number of the first edit after a place that needs, or is needed by, one with these reads and changes.
-    pub fn first_to_block_redo(
+    pub(crate) fn first_to_block_redo(
         &mut self,
         entries: &[Record],
         at: usize,
@@ -114,7 +114,7 @@ impl ByFootprint {
     }
 
     /// The numbers of the edits that have to be undone with the one at a place, from the greatest down.
-    pub fn needing(&mut self, entries: &[Record], at: usize) -> Result<Vec<u64>, NoMemory>
+    pub(crate) fn needing(&mut self, entries: &[Record], at: usize) -> Result<Vec<u64>, NoMemory>
         requires in_log { at < length entries.now }
         requires few { length entries.now < 2 ^ 63 }
         requires indexed { IsByFootprint self.old (length entries.now) (by_number entries.now) }
@@ -129,7 +129,7 @@ impl ByFootprint {
     }
 
     /// The edit at a place is out of force.
-    pub fn take(&mut self, at: usize, kept: &LentFootprint<'_>)
+    pub(crate) fn take(&mut self, at: usize, kept: &LentFootprint<'_>)
         requires { at < 2 ^ 63 }
         ensures { (count : ℕ) (footprints : Footprints) → IsByFootprint self.old count footprints →
             footprints (at + 1) ≡ Some (lent_footprint kept.now) → IsByFootprint self.new count (with_footprint footprints (at + 1) None) }
@@ -140,7 +140,7 @@ impl ByFootprint {
     }
 
     /// The edit at a place is in force again. Where no memory is left for it, none has entered.
-    pub fn put_back(&mut self, at: usize, kept: &LentFootprint<'_>)
+    pub(crate) fn put_back(&mut self, at: usize, kept: &LentFootprint<'_>)
         requires { at < 2 ^ 63 }
         ensures { (count : ℕ) (footprints : Footprints) → IsByFootprint self.old count footprints → footprints (at + 1) ≡ None →
             IsByFootprint self.new count (with_footprint footprints (at + 1) (Some (lent_footprint kept.now))) }

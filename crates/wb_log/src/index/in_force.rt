@@ -14,7 +14,7 @@ use wb_range::NoMemory;
 
 /// Which of the first `entered` edits are in force.
 #[derive(Drop)]
-pub struct InForce {
+pub(crate) struct InForce {
     alloc: Global,
     numbers: Numbers,
     entered: usize,
@@ -22,7 +22,7 @@ pub struct InForce {
 
 impl InForce {
     /// No edit has entered.
-    pub fn new(alloc: Global) -> InForce
+    pub(crate) fn new(alloc: Global) -> InForce
         ensures { (count : ℕ) (footprints : Footprints) → footprints 0 ≡ None → AreInForce result count footprints }
     {
         InForce {
@@ -63,7 +63,7 @@ impl InForce {
     }
 
     /// The place of the latest edit in force.
-    pub fn latest(&mut self, entries: &[Record]) -> Option<usize>
+    pub(crate) fn latest(&mut self, entries: &[Record]) -> Option<usize>
         requires few { length entries.now < 2 ^ 63 }
         requires indexed { AreInForce self.old (length entries.now) (by_number entries.now) }
         ensures latest { IsLatest (kept_all entries.now) result }
@@ -80,7 +80,7 @@ impl InForce {
     }
 
     /// The edit at a place is out of force.
-    pub fn take(&mut self, at: usize)
+    pub(crate) fn take(&mut self, at: usize)
         requires { at < 2 ^ 63 }
         ensures { (count : ℕ) (footprints : Footprints) → AreInForce self.old count footprints →
             AreInForce self.new count (with_footprint footprints (at + 1) None) }
@@ -91,7 +91,7 @@ impl InForce {
     }
 
     /// The edit at a place is in force again. Where no memory is left for it, none has entered.
-    pub fn put_back(&mut self, at: usize)
+    pub(crate) fn put_back(&mut self, at: usize)
         requires { at < 2 ^ 63 }
         ensures { (count : ℕ) (footprints : Footprints) (f : Footprint workbook) → AreInForce self.old count footprints →
             AreInForce self.new count (with_footprint footprints (at + 1) (Some f)) }

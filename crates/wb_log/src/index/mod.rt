@@ -16,9 +16,9 @@ use crate::index::in_force::InForce;
 use std::alloc::Global;
 
 /// Indexes over the edits in force.
-pub struct Index {
-    pub by_footprint: ByFootprint,
-    pub in_force: InForce,
+pub(crate) struct Index {
+    pub(crate) by_footprint: ByFootprint,
+    pub(crate) in_force: InForce,
 }
 
 // In a function of its own, so that a crate above need not prove anew how each field is let go.
@@ -33,7 +33,7 @@ impl Drop for Index {
 
 impl Index {
     /// No edit has entered.
-    pub fn new(alloc: Global) -> Index
+    pub(crate) fn new(alloc: Global) -> Index
         ensures { (count : ℕ) (footprints : Footprints) → footprints 0 ≡ None → Indexes result count footprints }
     {
         Index {
@@ -43,7 +43,7 @@ impl Index {
     }
 
     /// The edit at a place, which was in force, no longer is.
-    pub fn take(&mut self, at: usize, kept: &LentFootprint<'_>)
+    pub(crate) fn take(&mut self, at: usize, kept: &LentFootprint<'_>)
         requires { at < 2 ^ 63 }
         ensures { (count : ℕ) (footprints : Footprints) → Indexes self.old count footprints → footprints (at + 1) ≡ Some (lent_footprint kept.now) →
             Indexes self.new count (with_footprint footprints (at + 1) None) }
@@ -53,7 +53,7 @@ impl Index {
     }
 
     /// The edit at a place, which was out of force, is in force again.
-    pub fn put_back(&mut self, at: usize, kept: &LentFootprint<'_>)
+    pub(crate) fn put_back(&mut self, at: usize, kept: &LentFootprint<'_>)
         requires { at < 2 ^ 63 }
         ensures { (count : ℕ) (footprints : Footprints) → Indexes self.old count footprints → footprints (at + 1) ≡ None →
             Indexes self.new count (with_footprint footprints (at + 1) (Some (lent_footprint kept.now))) }

@@ -342,7 +342,7 @@ fn make_form<M: Mover>(
 }
 
 /// Makes the changes of a planned edit of a record, which is in force then. Want of threads is answered as want of memory.
-pub fn make<M: Mover>(
+pub(crate) fn make<M: Mover>(
     alloc: Global,
     book: &mut Book,
     entry: &mut Record,

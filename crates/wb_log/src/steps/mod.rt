@@ -1,10 +1,10 @@
-//! What the history does to its book and its entries: each step keeps that the book is the replay.
+//! What the log does to its book and its entries: each step keeps that the book is the replay.
 
-pub mod aside;
-pub mod cascade;
-pub mod edit;
+mod append;
+mod cascade;
+mod edit;
 mod held;
-pub mod making;
-pub mod redo;
-pub mod undo;
-pub mod undoer;
+pub(crate) mod making;
+mod redo;
+mod undo;
+pub(crate) mod undoer;

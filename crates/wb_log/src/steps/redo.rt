@@ -6,12 +6,13 @@ ghost use Rattle.wb_edit.specs.Edits.{meaning};
 ghost use Rattle.wb_edit.specs.Plans.{IsPlan};
 ghost use Rattle.wb_footprints.specs.Footprints.{Footprints, with_footprint};
 ghost use Rattle.wb_log.specs.Indexed.{Indexes, IsIndexed};
-ghost use Rattle.wb_log.specs.Kept.{kept_in, Shows, PlansAgain, redo_blocker, stopped_refusal, entries_meant, numbered_entries};
-ghost use Rattle.wb_log.specs.Past.{into_force, AreValid};
+ghost use Rattle.wb_log.specs.Kept.{kept_in, Shows, PlansAgain, redo_blocker, stopped_refusal, entries_meant};
+ghost use Rattle.wb_log.specs.Past.{meant, into_force};
 ghost use Rattle.wb_log.specs.Replies.{RedoReply, RedoesInPlace};
 
 use crate::entry::Record;
 use crate::index::Index;
+use crate::log::Log;
 use crate::steps::making::make;
 use std::alloc::Global;
 use wb_arrays::Mover;
@@ -166,51 +167,36 @@ fn put_in<M: Mover>(
     }
 }
 
-/// Redoes the edit at a place.
-pub fn redo_at<M: Mover>(
-    alloc: Global,
-    book: &mut Book,
-    entries: &mut [Record],
-    index: &mut Index,
-    at: usize,
-    mover: &M,
-) -> Result<usize, Refusal>
-    // The place is in the log, which belongs together with its workbook and its index.
-    requires in_log { at < length entries.old }
-    requires few { length entries.old < 2 ^ 63 }
-    requires kept { Shows entries.old book.old.cells }
-    requires indexed { IsIndexed index.old entries.old }
-    requires valid { AreValid (numbered_entries entries.old) }
+impl Log {
+    /// Redoes the edit at a place.
+    pub fn redo_at<M: Mover>(&mut self, at: usize, mover: &M) -> Result<usize, Refusal>
+        requires { at < length self.old.entries }
 
-    // They belong together afterwards.
-    ensures kept { Shows entries.new book.new.cells }
-    ensures indexed { IsIndexed index.new entries.new }
+        // The answer; the edit is in force in its own place, and the cells that were set are counted.
+        ensures reply { RedoReply (meant self.old.entries) at result }
+        ensures entries { OnOk result (self.new.entries ≡ into_force at self.old.entries) }
+        ensures in_place { OnOk result (RedoesInPlace (meant self.old.entries) at (meant self.new.entries)) }
+        ensures writes { IfOk result (λ n. self.new.writes ≡ saturating_add self.old.writes n) }
 
-    // The answer; the edit is in force in its own place, and the cells that were set are counted.
-    ensures reply { RedoReply (entries_meant entries.old) at result }
-    ensures entries { OnOk result (numbered_entries entries.new ≡ into_force at (numbered_entries entries.old)) }
-    ensures in_place { OnOk result (RedoesInPlace (entries_meant entries.old) at (entries_meant entries.new)) }
-    ensures writes { IfOk result (λ n. book.new.writes ≡ saturating_add book.old.writes n) }
-
-    // After a refusal nothing has changed.
-    ensures entries_stay { OnErr result (numbered_entries entries.new ≡ numbered_entries entries.old) }
-    ensures book_stays { OnErr result (book.new ≡ book.old) }
-{
-    match plan_again(alloc, book, entries, index, at) {
-        Err(why) => Err(why),
-        Ok((delta, footprint, count)) => {
-            match put_in(
-                alloc,
-                book,
-                &mut entries[at],
-                index,
-                at,
-                delta,
-                footprint,
-                mover,
-            ) {
-                Ok(()) => Ok(count),
-                Err(_) => Err(Refusal::NoMemory),
+        // After a refusal nothing has changed.
+        ensures err { OnErr result (self.new ≡ self.old) }
+    {
+        match plan_again(self.alloc, &self.book, &self.entries, &mut self.index, at) {
+            Err(why) => Err(why),
+            Ok((delta, footprint, count)) => {
+                match put_in(
+                    self.alloc,
+                    &mut self.book,
+                    &mut self.entries[at],
+                    &mut self.index,
+                    at,
+                    delta,
+                    footprint,
+                    mover,
+                ) {
+                    Ok(()) => Ok(count),
+                    Err(_) => Err(Refusal::NoMemory),
+                }
             }
         }
     }

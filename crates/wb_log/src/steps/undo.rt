@@ -2,17 +2,19 @@ ghost use Rattle.std.specs.Prelude.{◌≡◌, ℕ, ◌+◌, ◌-◌, ◌^◌, �
 ghost use Rattle.wb_cells.specs.Cells.{saturating_add};
 ghost use Rattle.wb_footprints.specs.Footprints.{Footprints, with_footprint};
 ghost use Rattle.wb_log.specs.Indexed.{Indexes, IsIndexed};
-ghost use Rattle.wb_log.specs.Kept.{kept_in, Shows, MayUndo, TakenBack, LeavesWellFormed, refusal_of, entries_meant, numbered_entries};
-ghost use Rattle.wb_log.specs.Past.{out_of_force, AreValid};
+ghost use Rattle.wb_log.specs.Cascades.{IsFree};
+ghost use Rattle.wb_log.specs.Kept.{kept_in, MayUndo, TakenBack, LeavesWellFormed, refusal_of};
+ghost use Rattle.wb_log.specs.Past.{meant, out_of_force};
 ghost use Rattle.wb_log.specs.Replies.{UndoReply, LastReply, SetsBack, LeavesOthers, Restores};
 
 use crate::entry::Record;
 use crate::index::Index;
+use crate::log::Log;
 use wb_arrays::Mover;
 use wb_book::Book;
 use wb_edit::Refusal;
 
-/// Whether an edit may not be undone.
+/// Why the edit at a place may not be undone.
 fn undo_refusal(entries: &[Record], index: &mut Index, at: usize) -> Option<Refusal>
     requires in_log { at < length entries.now }
     requires few { length entries.now < 2 ^ 63 }
@@ -69,109 +71,68 @@ fn take_back<M: Mover>(
     Ok(count)
 }
 
-/// Undoes the edit at a place, which may be undone.
-fn undo_free<M: Mover>(
-    book: &mut Book,
-    entries: &mut [Record],
-    index: &mut Index,
-    at: usize,
-    mover: &M,
-) -> Result<usize, Refusal>
-    // The place is in the log, which belongs together with its workbook and its index; nothing blocks the undo.
-    requires in_log { at < length entries.old }
-    requires few { length entries.old < 2 ^ 63 }
-    requires kept { Shows entries.old book.old.cells }
-    requires indexed { IsIndexed index.old entries.old }
-    requires valid { AreValid (numbered_entries entries.old) }
-    requires free { MayUndo entries.old at None }
+impl Log {
+    /// Undoes the edit at a place.
+    pub fn undo_at<M: Mover>(&mut self, at: usize, mover: &M) -> Result<usize, Refusal>
+        requires { at < length self.old.entries }
 
-    // They belong together afterwards.
-    ensures kept { Shows entries.new book.new.cells }
-    ensures indexed { IsIndexed index.new entries.new }
+        // The answer; the edit is out of force, its cells are set back and counted, and the others stay.
+        ensures reply { UndoReply (meant self.old.entries) at result }
+        ensures entries { OnOk result (self.new.entries ≡ out_of_force at self.old.entries) }
+        ensures set_back { OnOk result (SetsBack (meant self.old.entries) at (meant self.new.entries)) }
+        ensures others { OnOk result (LeavesOthers (meant self.old.entries) at (meant self.new.entries)) }
+        ensures writes { IfOk result (λ n. self.new.writes ≡ saturating_add self.old.writes n) }
 
-    // The answer; the edit is out of force, its cells are set back and counted, and the others stay.
-    ensures reply { UndoReply (entries_meant entries.old) at result }
-    ensures entries { OnOk result (numbered_entries entries.new ≡ out_of_force at (numbered_entries entries.old)) }
-    ensures set_back { OnOk result (SetsBack (entries_meant entries.old) at (entries_meant entries.new)) }
-    ensures others { OnOk result (LeavesOthers (entries_meant entries.old) at (entries_meant entries.new)) }
-    ensures writes { IfOk result (λ n. book.new.writes ≡ saturating_add book.old.writes n) }
-
-    // After a refusal nothing has changed.
-    ensures entries_stay { OnErr result (numbered_entries entries.new ≡ numbered_entries entries.old) }
-    ensures book_stays { OnErr result (book.new ≡ book.old) }
-{
-    take_back(book, &mut entries[at], index, at, mover)
-}
-
-/// Undoes the edit at a place.
-pub fn undo_at<M: Mover>(
-    book: &mut Book,
-    entries: &mut [Record],
-    index: &mut Index,
-    at: usize,
-    mover: &M,
-) -> Result<usize, Refusal>
-    // The place is in the log, which belongs together with its workbook and its index.
-    requires in_log { at < length entries.old }
-    requires few { length entries.old < 2 ^ 63 }
-    requires kept { Shows entries.old book.old.cells }
-    requires indexed { IsIndexed index.old entries.old }
-    requires valid { AreValid (numbered_entries entries.old) }
-
-    // They belong together afterwards.
-    ensures kept { Shows entries.new book.new.cells }
-    ensures indexed { IsIndexed index.new entries.new }
-
-    // The answer; the edit is out of force, its cells are set back and counted, and the others stay.
-    ensures reply { UndoReply (entries_meant entries.old) at result }
-    ensures entries { OnOk result (numbered_entries entries.new ≡ out_of_force at (numbered_entries entries.old)) }
-    ensures set_back { OnOk result (SetsBack (entries_meant entries.old) at (entries_meant entries.new)) }
-    ensures others { OnOk result (LeavesOthers (entries_meant entries.old) at (entries_meant entries.new)) }
-    ensures writes { IfOk result (λ n. book.new.writes ≡ saturating_add book.old.writes n) }
-
-    // After a refusal nothing has changed.
-    ensures entries_stay { OnErr result (numbered_entries entries.new ≡ numbered_entries entries.old) }
-    ensures book_stays { OnErr result (book.new ≡ book.old) }
-{
-    match undo_refusal(entries, index, at) {
-        Some(why) => Err(why),
-        None => undo_free(book, entries, index, at, mover),
+        // After a refusal nothing has changed.
+        ensures err { OnErr result (self.new ≡ self.old) }
+    {
+        match undo_refusal(&self.entries, &mut self.index, at) {
+            Some(why) => Err(why),
+            None => self.undo_free(at, mover),
+        }
     }
-}
 
-/// Undoes the latest edit in force, which nothing can block: its number, and how many cells it sets back.
-pub fn undo_latest<M: Mover>(
-    book: &mut Book,
-    entries: &mut [Record],
-    index: &mut Index,
-    mover: &M,
-) -> Result<(u64, usize), Refusal>
-    // The log, its workbook and its index belong together.
-    requires few { length entries.old < 2 ^ 63 }
-    requires kept { Shows entries.old book.old.cells }
-    requires indexed { IsIndexed index.old entries.old }
-    requires valid { AreValid (numbered_entries entries.old) }
+    /// Undoes the latest edit in force, which nothing can block: its number, and how many cells it sets back.
+    pub fn undo_latest<M: Mover>(&mut self, mover: &M) -> Result<(u64, usize), Refusal>
+        // The answer; the edit is out of force, the workbook is as before it, and the others stay.
+        ensures reply { LastReply (meant self.old.entries) result }
+        ensures entries { IfOk result (λ r. self.new.entries ≡ out_of_force (r.0 - 1) self.old.entries) }
+        ensures restored { IfOk result (λ r. Restores (meant self.old.entries) (r.0 - 1) (meant self.new.entries)) }
+        ensures others { IfOk result (λ r. LeavesOthers (meant self.old.entries) (r.0 - 1) (meant self.new.entries)) }
+        ensures writes { IfOk result (λ r. self.new.writes ≡ saturating_add self.old.writes r.1) }
 
-    // They belong together afterwards.
-    ensures kept { Shows entries.new book.new.cells }
-    ensures indexed { IsIndexed index.new entries.new }
+        // After a refusal nothing has changed.
+        ensures err { OnErr result (self.new ≡ self.old) }
+    {
+        match self.index.in_force.latest(&self.entries) {
+            None => Err(Refusal::NoSuchEdit),
+            Some(at) => match self.undo_free(at, mover) {
+                Ok(count) => Ok((at as u64 + 1, count)),
+                Err(why) => Err(why),
+            },
+        }
+    }
 
-    // The answer; the edit is out of force, the workbook is as before it, and the others stay.
-    ensures reply { LastReply (entries_meant entries.old) result }
-    ensures entries { IfOk result (λ r. numbered_entries entries.new ≡ out_of_force (r.0 - 1) (numbered_entries entries.old)) }
-    ensures restored { IfOk result (λ r. Restores (entries_meant entries.old) (r.0 - 1) (entries_meant entries.new)) }
-    ensures others { IfOk result (λ r. LeavesOthers (entries_meant entries.old) (r.0 - 1) (entries_meant entries.new)) }
-    ensures writes { IfOk result (λ r. book.new.writes ≡ saturating_add book.old.writes r.1) }
+    // Undoes the edit at a place, which may be undone.
+    fn undo_free<M: Mover>(&mut self, at: usize, mover: &M) -> Result<usize, Refusal>
+        requires { IsFree (meant self.old.entries) at }
 
-    // After a refusal nothing has changed.
-    ensures entries_stay { OnErr result (numbered_entries entries.new ≡ numbered_entries entries.old) }
-    ensures book_stays { OnErr result (book.new ≡ book.old) }
-{
-    match index.in_force.latest(entries) {
-        None => Err(Refusal::NoSuchEdit),
-        Some(at) => match undo_free(book, entries, index, at, mover) {
-            Ok(count) => Ok((at as u64 + 1, count)),
-            Err(why) => Err(why),
-        },
+        // The answer; the edit is out of force, its cells are set back and counted, and the others stay.
+        ensures reply { UndoReply (meant self.old.entries) at result }
+        ensures entries { OnOk result (self.new.entries ≡ out_of_force at self.old.entries) }
+        ensures set_back { OnOk result (SetsBack (meant self.old.entries) at (meant self.new.entries)) }
+        ensures others { OnOk result (LeavesOthers (meant self.old.entries) at (meant self.new.entries)) }
+        ensures writes { IfOk result (λ n. self.new.writes ≡ saturating_add self.old.writes n) }
+
+        // After a refusal nothing has changed.
+        ensures err { OnErr result (self.new ≡ self.old) }
+    {
+        take_back(
+            &mut self.book,
+            &mut self.entries[at],
+            &mut self.index,
+            at,
+            mover,
+        )
     }
 }
