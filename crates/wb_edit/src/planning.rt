@@ -3,7 +3,8 @@ ghost use Rattle.wb_edit.specs.Commands.{command_meaning};
 ghost use Rattle.wb_edit.specs.Commands.Load.{load as load_meaning};
 ghost use Rattle.wb_edit.specs.Edits.{meaning, meaning_of_several, placed};
 ghost use Rattle.wb_edit.specs.Plans.{Attempts, IsPlan};
-ghost use Rattle.wb_edit.specs.Trees.{plain};
+ghost use Rattle.wb_cells.specs.Cells.{Cells};
+ghost use Rattle.wb_edit.specs.Trees.{Tree, plain};
 
 use crate::attempt_err::AttemptErr;
 use crate::command::Command;
@@ -12,7 +13,7 @@ use crate::commands::{
     remap, remove, reshape, set, sparse,
 };
 use crate::edit::Edit;
-use crate::footprint::ReadFootprint;
+use crate::footprint::{FootprintBuilder, ReadFootprint};
 use crate::several::{PlanAllErr, plan_all};
 use crate::transaction::Transaction;
 use std::alloc::Global;
@@ -49,6 +50,26 @@ pub fn plan(
     }
 }
 
+// What an attempt came to, as a plan of the same tree.
+fn plan_of(
+    attempted: Result<Delta, AttemptErr>,
+    footprint: FootprintBuilder,
+) -> Result<(Delta, ReadFootprint, usize), PlanErr>
+    ensures { (e : Tree) (s : Cells) → Attempts e s [] attempted footprint → IsPlan e s result }
+{
+    let Ok(read) = footprint.build() else {
+        return Err(PlanErr::NoMemory);
+    };
+    match attempted {
+        Ok(delta) => {
+            let count = delta.count();
+            Ok((delta, read, count))
+        }
+        Err(AttemptErr::Refused(why)) => Err(PlanErr::Refused(EditRefusal { why, at: None }, read)),
+        Err(AttemptErr::NoMemory) => Err(PlanErr::NoMemory),
+    }
+}
+
 // The plan of one command.
 fn plan_command(
     alloc: Global,
@@ -57,18 +78,10 @@ fn plan_command(
 ) -> Result<(Delta, ReadFootprint, usize), PlanErr>
     ensures { IsPlan (command_meaning command.now) book.now.cells result }
 {
-    let mut footprint = ReadFootprint::new(alloc);
+    let mut footprint = FootprintBuilder::new(alloc);
     let layered = Layered::of(alloc, book);
-    match attempt(alloc, &layered, &mut footprint, command) {
-        Ok(delta) => {
-            let count = delta.count();
-            Ok((delta, footprint, count))
-        }
-        Err(AttemptErr::Refused(why)) => {
-            Err(PlanErr::Refused(EditRefusal { why, at: None }, footprint))
-        }
-        Err(AttemptErr::NoMemory) => Err(PlanErr::NoMemory),
-    }
+    let attempted = attempt(alloc, &layered, &mut footprint, command);
+    plan_of(attempted, footprint)
 }
 
 // The plan that loads a text.
@@ -79,18 +92,10 @@ fn plan_text(
 ) -> Result<(Delta, ReadFootprint, usize), PlanErr>
     ensures { IsPlan (load_meaning text.now) book.now.cells result }
 {
-    let mut footprint = ReadFootprint::new(alloc);
+    let mut footprint = FootprintBuilder::new(alloc);
     let layered = Layered::of(alloc, book);
-    match load::plan_load(alloc, &layered, &mut footprint, text) {
-        Ok(delta) => {
-            let count = delta.count();
-            Ok((delta, footprint, count))
-        }
-        Err(AttemptErr::Refused(why)) => {
-            Err(PlanErr::Refused(EditRefusal { why, at: None }, footprint))
-        }
-        Err(AttemptErr::NoMemory) => Err(PlanErr::NoMemory),
-    }
+    let attempted = load::plan_load(alloc, &layered, &mut footprint, text);
+    plan_of(attempted, footprint)
 }
 
 // The plan of several commands as one.
@@ -125,7 +130,7 @@ fn placed(place: usize, why: WhyRefused) -> EditRefusal
 pub(crate) fn attempt(
     alloc: Global,
     book: &Layered<'_>,
-    footprint: &mut ReadFootprint,
+    footprint: &mut FootprintBuilder,
     command: &Command,
 ) -> Result<Delta, AttemptErr>
     ensures { Attempts (command_meaning command.now) book.now.cells footprint.old result footprint.new }

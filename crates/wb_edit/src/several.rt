@@ -5,7 +5,7 @@ ghost use Rattle.wb_edit.specs.Several.{AttemptsAll, IsPlanOfAll, MakesNext};
 
 use crate::attempt_err::AttemptErr;
 use crate::command::Command;
-use crate::footprint::ReadFootprint;
+use crate::footprint::{FootprintBuilder, ReadFootprint};
 use crate::planning::attempt;
 use std::alloc::Global;
 use wb_book::Book;
@@ -43,17 +43,21 @@ pub fn plan_all(
 ) -> Result<(Delta, ReadFootprint, usize), PlanAllErr>
     ensures { IsPlanOfAll commands.now book.now.cells result }
 {
-    let mut footprint = ReadFootprint::new(alloc);
+    let mut footprint = FootprintBuilder::new(alloc);
     let layered = Layered::of(alloc, book);
-    match attempt_all(alloc, layered, &mut footprint, commands) {
+    let attempted = attempt_all(alloc, layered, &mut footprint, commands);
+    let Ok(read) = footprint.build() else {
+        return Err(PlanAllErr::NoMemory);
+    };
+    match attempted {
         Ok(laid) => match laid.into_delta() {
             Ok(delta) => {
                 let count = delta.count();
-                Ok((delta, footprint, count))
+                Ok((delta, read, count))
             }
             Err(_) => Err(PlanAllErr::NoMemory),
         },
-        Err(AllErr::Refused(place, why)) => Err(PlanAllErr::Refused(place, why, footprint)),
+        Err(AllErr::Refused(place, why)) => Err(PlanAllErr::Refused(place, why, read)),
         Err(AllErr::NoMemory) => Err(PlanAllErr::NoMemory),
     }
 }
@@ -62,7 +66,7 @@ pub fn plan_all(
 fn attempt_all<'a>(
     alloc: Global,
     book: Layered<'a>,
-    footprint: &mut ReadFootprint,
+    footprint: &mut FootprintBuilder,
     commands: &[Command],
 ) -> Result<Layered<'a>, AllErr>
     requires { book.laid ≡ [] }
@@ -82,7 +86,7 @@ fn attempt_all<'a>(
 fn make_next<'a>(
     alloc: Global,
     laid: Layered<'a>,
-    footprint: &mut ReadFootprint,
+    footprint: &mut FootprintBuilder,
     place: usize,
     command: &Command,
 ) -> Result<Layered<'a>, AllErr>

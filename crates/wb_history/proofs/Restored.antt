@@ -75,8 +75,8 @@ counted_edit p q e r (k, (xs, accepted, n)) more writes counted =
     counted_on (cells_written (traces h)) (cells_written (traces (meant q.entries))) r.1 p.writes q.writes counted writes
     (ap cells_written now_is ∙ one_more h (meaning e) ∙ ap (λ c. cells_written (traces h) + c) count)
 
-pub counted_aside : (p q : Past) (e : command.Edit) → q.entries ≡ p.entries ++ one_of e false ∷ [] → q.writes ≡ p.writes → IsCounted p → IsCounted q
-counted_aside p q e more writes counted =
+pub counted_undone : (p q : Past) (e : command.Edit) → q.entries ≡ p.entries ++ one_of e false ∷ [] → q.writes ≡ p.writes → IsCounted p → IsCounted q
+counted_undone p q e more writes counted =
     let h = meant p.entries in
     let now_is : traces (meant q.entries) ≡ traces (h ++ undone (meaning e) ∷ []) = ap (λ es. traces (meant es)) more ∙
     ap traces (meant_more p.entries (one_of e false ∷ [])) in

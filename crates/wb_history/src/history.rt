@@ -245,12 +245,12 @@ impl History {
     }
 
     /// Takes an edit in as the last one, out of force: nothing is tried or made.
-    pub(crate) fn take_in(&mut self, aside: Edit) -> Result<(), NoMemory>
-        ensures entries { OnOk result (self.new.entries ≡ self.old.entries ++ one_of aside false ∷ []) }
+    pub(crate) fn append_undone(&mut self, undone: Edit) -> Result<(), NoMemory>
+        ensures entries { OnOk result (self.new.entries ≡ self.old.entries ++ one_of undone false ∷ []) }
         ensures writes { self.new.writes ≡ self.old.writes }
         ensures err { OnErr result (self.new ≡ self.old) }
     {
-        self.log.append_undone(aside)
+        self.log.append_undone(undone)
     }
 
     /// What a query is answered, from the workbook as it is; `NoMemory` may stand for a piece or a note, and for nothing else. A

@@ -56,7 +56,7 @@ pub fn put_in<M: Mover>(
             Err(why) => Err(stopped(why)),
         }
     } else {
-        match history.take_in(edit) {
+        match history.append_undone(edit) {
             Ok(()) => Ok(()),
             Err(_) => Err(RestoreErr::NoMemory),
         }

@@ -18,9 +18,9 @@ use Rattle.wb_edit.specs.declared.edit.Edit as command
 use Rattle.wb_edit.specs.declared.edit.Edit.TheVariants.{Command as OneCommand}
 use Rattle.wb_edit.specs.Edits.{meaning, IsValid}
 use Rattle.wb_log.specs.declared.entry.Before.TheVariants.{Number}
-use Rattle.wb_log.specs.declared.entry.Entry as kept
-use Rattle.wb_log.specs.declared.entry.Kept.{Kept}
-use Rattle.wb_log.specs.declared.index.Index.{Index}
+use Rattle.wb_log.specs.declared.entry.LoggedEdit as kept
+use Rattle.wb_log.specs.declared.entry.UndoData.{UndoData}
+use Rattle.wb_log.specs.declared.index.EditIndex.{EditIndex}
 use Rattle.wb_log.specs.Indexed.{Keeps}
 use Rattle.wb_log.specs.Kept.{logged, log, numbered, numbered_entries, Shows}
 use Rattle.wb_log.specs.Past.{Past, meant, AreValid}
@@ -61,10 +61,10 @@ module _ {w : Schema} where
             ∙ sym (ap (λ g. footprints (traces g)) now_is ∙ ap footprints after.1 ∙ append-map (option_map footprint_of) (traces h) (None ∷ []));
       }
 
-pub keeps_undone : (s : Cells) (x : Index) (es : List kept.Entry) (e : command.Edit) → Keeps es s x → IsValid e →
+pub keeps_undone : (s : Cells) (x : EditIndex) (es : List kept.LoggedEdit) (e : command.Edit) → Keeps es s x → IsValid e →
     Keeps (es ++ record { edit = e; kept = None } ∷ []) s x
 keeps_undone s x es e keeps here =
-    let y : kept.Entry = record { edit = e; kept = None } in
+    let y : kept.LoggedEdit = record { edit = e; kept = None } in
     record {
       shows = subst (λ l. IsKept {w = workbook} s l) (sym (append-map logged es (y ∷ []))) (kept_undone s (log es) (meaning e) keeps.shows);
       valid = subst AreValid (sym (numbers_more es y)) (valid_append (numbered_entries es) (numbered y) keeps.valid here);
@@ -74,14 +74,14 @@ keeps_undone s x es e keeps here =
 -- ---- an edit is made by its plan
 
 -- the cells, as contracts tell of them
-pub cells_seen : (es : List kept.Entry) (s : Cells) (w : ℕ) (p : Past) → Shows es s → seen es w ≡ p → s ≡ replay (meant p.entries)
+pub cells_seen : (es : List kept.LoggedEdit) (s : Cells) (w : ℕ) (p : Past) → Shows es s → seen es w ≡ p → s ≡ replay (meant p.entries)
 cells_seen es s w p shows is = shows.shown ∙ ap replay (history-log es) ∙ ap (λ q. replay (meant q.entries)) is
 
-pub keeps_made : (s : Cells) (x : Index) (es : List kept.Entry) (e : command.Edit) (xs : Changes) (k : Kept) → Keeps es s x → IsValid e →
+pub keeps_made : (s : Cells) (x : EditIndex) (es : List kept.LoggedEdit) (e : command.Edit) (xs : Changes) (k : UndoData) → Keeps es s x → IsValid e →
     outcome (meaning e) s ≡ Ok xs → k.footprint ≡ reads (meaning e) s → k.inverse ≡ inverse xs s →
     Keeps (es ++ record { edit = e; kept = Some k } ∷ []) (apply xs s) x
 keeps_made s x es e xs k keeps here accepted read before =
-    let y : kept.Entry = record { edit = e; kept = Some k } in
+    let y : kept.LoggedEdit = record { edit = e; kept = Some k } in
     record {
       shows = more_kept s es e xs k keeps.shows accepted read before;
       valid = subst AreValid (sym (numbers_more es y)) (valid_append (numbered_entries es) (numbered y) keeps.valid here);
@@ -89,11 +89,11 @@ keeps_made s x es e xs k keeps here accepted read before =
     }
 
 -- a new value of an element that is there
-pub keeps_set : (s : Cells) (x : Index) (es : List kept.Entry) (a : Name) (i : Place) (v was : ℤ) → Keeps es s x → IsValid (OneCommand (Set a i v)) →
-    get s (Element a i) ≡ Some (value.Number was) → let k : Kept = record { footprint = element_reads a i; inverse = cell_before (Element a i) (Number was) } in
+pub keeps_set : (s : Cells) (x : EditIndex) (es : List kept.LoggedEdit) (a : Name) (i : Place) (v was : ℤ) → Keeps es s x → IsValid (OneCommand (Set a i v)) →
+    get s (Element a i) ≡ Some (value.Number was) → let k : UndoData = record { footprint = element_reads a i; inverse = cell_before (Element a i) (Number was) } in
     Keeps (es ++ record { edit = OneCommand (Set a i v); kept = Some k } ∷ []) (apply (element_set a i v) s) x
 keeps_set s x es a i v was keeps here had =
-    let k : Kept = record { footprint = element_reads a i; inverse = cell_before (Element a i) (Number was) } in
+    let k : UndoData = record { footprint = element_reads a i; inverse = cell_before (Element a i) (Number was) } in
     let formed = well_formed es s keeps.shows keeps.valid in
     let there : IsSome (get s (Element a i)) = ap is_some had in
     keeps_made s x es (OneCommand (Set a i v)) (element_set a i v) k keeps here (set_accepted s formed a i v there) (sym (set_reads s formed a i v there))

@@ -7,7 +7,7 @@ use Rattle.selective_undo.specs.Log.{footprint_of, footprints, blocks_undo, meet
 use Rattle.selective_undo.proofs.Locality.{needs_true, needs_false}
 use Rattle.selective_undo.proofs.Log.{footprint_there, trace_of, some_footprint}
 use Rattle.wb_cells.specs.Schema.{workbook}
-use Rattle.wb_log.specs.declared.entry.Entry as kept
+use Rattle.wb_log.specs.declared.entry.LoggedEdit as kept
 use Rattle.wb_log.specs.Kept.{footprint_at_number, by_number, entries_meant, Shows}
 use Rattle.wb_log.specs.Needed as by_footprints
 use Rattle.wb_log.specs.Needed.{NeedsKept, FromFootprints, AreFromFootprints}
@@ -24,7 +24,7 @@ by_place [] j f e = cc
 by_place (x ∷ xs) zero f e = cc
 by_place (x ∷ xs) (suc j) f e = by_place xs j f e
 
-pub by_traces : (es : List kept.Entry) (s : _) → Shows es s → by_number es ≡ footprint_at_number (None ∷ footprints (traces (entries_meant es)))
+pub by_traces : (es : List kept.LoggedEdit) (s : _) → Shows es s → by_number es ≡ footprint_at_number (None ∷ footprints (traces (entries_meant es)))
 by_traces es s shows = ap (λ os. footprint_at_number (None ∷ os)) (sym (kept-log es) ∙ shows.footprints ∙ ap (λ g. footprints (traces g)) (history-log es))
 
 module _ (ts : List (Option (Trace workbook))) where

@@ -10,8 +10,8 @@ use Rattle.wb_cells.specs.Schema.{workbook}
 use Rattle.wb_footprints.specs.declared.foot_index.FootIndex.{FootIndex}
 use Rattle.wb_footprints.specs.Footprints.{Footprints, IsIndexOf, with_footprint}
 use Rattle.wb_footprints.specs.Relation.{IsLeastAfter, IsGreatest}
-use Rattle.wb_log.specs.declared.entry.Entry as kept
-use Rattle.wb_log.specs.declared.index.Index.{Index}
+use Rattle.wb_log.specs.declared.entry.LoggedEdit as kept
+use Rattle.wb_log.specs.declared.index.EditIndex.{EditIndex}
 use Rattle.wb_edit.specs.declared.refusal.Refusal.{Refusal}
 use Rattle.wb_log.specs.Kept.{kept_in, kept_all, footprint_at_number, by_number, IsLatest, TakenBack}
 use Rattle.wb_log.specs.Indexed.{up_to, Indexes, IsIndexed}
@@ -21,18 +21,18 @@ use Rattle.wb_log.proofs.Lists.{index_like, replaced}
 
 -- ---- an entry by its number
 
-there : (es : List kept.Entry) (k : ℕ) (x : kept.Entry) → slice_get es k ≡ Some x → footprint_at_number (kept_all es) k ≡ kept_in x
+there : (es : List kept.LoggedEdit) (k : ℕ) (x : kept.LoggedEdit) → slice_get es k ≡ Some x → footprint_at_number (kept_all es) k ≡ kept_in x
 there [] k x is = cc
 there (y ∷ es) zero x is = let h : y ≡ x = cc in ap kept_in h
 there (y ∷ es) (suc k) x is = there es k x is
 
-pub kept_here : (es : List kept.Entry) (k : ℕ) (x : kept.Entry) → slice_get es k ≡ Some x → by_number es (k + 1) ≡ kept_in x
+pub kept_here : (es : List kept.LoggedEdit) (k : ℕ) (x : kept.LoggedEdit) → slice_get es k ≡ Some x → by_number es (k + 1) ≡ kept_in x
 kept_here es k x is = rw add-one (there es k x is)
 
-pub no_kept : (es : List kept.Entry) (k : ℕ) (x : kept.Entry) → slice_get es k ≡ Some x → x.kept ≡ None → by_number es (k + 1) ≡ None
+pub no_kept : (es : List kept.LoggedEdit) (k : ℕ) (x : kept.LoggedEdit) → slice_get es k ≡ Some x → x.kept ≡ None → by_number es (k + 1) ≡ None
 no_kept es k x is off = kept_here es k x is ∙ ap (λ o. kept_in (record { edit = x.edit; kept = o })) off
 
-kept_length : (es : List kept.Entry) → length (kept_all es) ≡ length es
+kept_length : (es : List kept.LoggedEdit) → length (kept_all es) ≡ length es
 kept_length [] = refl
 kept_length (x ∷ es) = ap (λ (n : ℕ). suc n) (kept_length es)
 
@@ -41,7 +41,7 @@ past [] k h = refl
 past (x ∷ xs) zero h = absurd (omega (arith, h))
 past (x ∷ xs) (suc k) h = past xs k (omega (arith, h))
 
-pub none_past : (es : List kept.Entry) (k : ℕ) → length es < k → by_number es k ≡ None
+pub none_past : (es : List kept.LoggedEdit) (k : ℕ) → length es < k → by_number es k ≡ None
 none_past es zero h = absurd (omega (arith, h))
 none_past es (suc k) h = past (kept_all es) k (omega (arith, h, kept_length es))
 
@@ -66,11 +66,11 @@ not_0 k f o none = let apart : (k + 1 == 0) ≡ false = grind (arith, nat_tests)
 
 -- ---- all have entered
 
-pub index_whole : (idx : FootIndex) (es : List kept.Entry) (n : ℕ) → length es ≤ n → IsIndexOf idx (up_to n (by_number es)) → IsIndexOf idx (by_number es)
+pub index_whole : (idx : FootIndex) (es : List kept.LoggedEdit) (n : ℕ) → length es ≤ n → IsIndexOf idx (up_to n (by_number es)) → IsIndexOf idx (by_number es)
 index_whole idx es n all h = index_like idx (up_to n (by_number es)) (by_number es)
     (all_up_to n (by_number es) (λ m high. none_past es m (omega (arith, all, high)))) h
 
-pub first_is : (es : List kept.Entry) (k : ℕ) (p : Option (Footprint workbook) → Bool) → p None ≡ false → (r : Option ℕ) →
+pub first_is : (es : List kept.LoggedEdit) (k : ℕ) (p : Option (Footprint workbook) → Bool) → p None ≡ false → (r : Option ℕ) →
     IsLeastAfter (λ n. p (by_number es n)) (k + 1) r → r ≡ first_from p (k + 2) (drop (k + 1) (kept_all es))
 first_is es k p none r h =
     let e : suc (k + 1) ≡ k + 2 = omega arith in
@@ -89,14 +89,14 @@ some_at (Some f ∷ xs) zero e = (f, refl)
 some_at (None ∷ xs) zero e = cc
 some_at (x ∷ xs) (suc p) e = some_at xs p e
 
-pub latest_none : (es : List kept.Entry) → IsGreatest (λ n. is_some (by_number es n)) None → IsLatest (kept_all es) None
+pub latest_none : (es : List kept.LoggedEdit) → IsGreatest (λ n. is_some (by_number es n)) None → IsLatest (kept_all es) None
 latest_none es h = λ q g e. let on = got (kept_all es) q g e in let off = h (suc q) in cc
 
-pub latest_positive : (es : List kept.Entry) (n : ℕ) → IsGreatest (λ n. is_some (by_number es n)) (Some n) → 1 ≤ n
+pub latest_positive : (es : List kept.LoggedEdit) (n : ℕ) → IsGreatest (λ n. is_some (by_number es n)) (Some n) → 1 ≤ n
 latest_positive es zero h = let bad = h.0 in cc
 latest_positive es (suc n) h = omega arith
 
-pub latest_some : (es : List kept.Entry) (n : ℕ) → IsGreatest (λ n. is_some (by_number es n)) (Some n) → IsLatest (kept_all es) (Some (n - 1))
+pub latest_some : (es : List kept.LoggedEdit) (n : ℕ) → IsGreatest (λ n. is_some (by_number es n)) (Some n) → IsLatest (kept_all es) (Some (n - 1))
 latest_some es zero h = let bad = h.0 in cc
 latest_some es (suc p) h =
     let e : p ≡ suc p - 1 = omega arith in
@@ -112,14 +112,14 @@ greatest_like : (p q : ℕ → Bool) → ((m : ℕ) → p m ≡ q m) → (r : Op
 greatest_like p q e None h = λ n. sym (e n) ∙ h n
 greatest_like p q e (Some j) h = (sym (e j) ∙ h.0, λ n is. h.1 n (e n ∙ is))
 
-pub greatest_whole : (p : ℕ → Bool) (es : List kept.Entry) (n : ℕ) (r : Option ℕ) → length es ≤ n → ((m : ℕ) → p m ≡ is_some (up_to n (by_number es) m)) →
+pub greatest_whole : (p : ℕ → Bool) (es : List kept.LoggedEdit) (n : ℕ) (r : Option ℕ) → length es ≤ n → ((m : ℕ) → p m ≡ is_some (up_to n (by_number es) m)) →
     IsGreatest p r → IsGreatest (λ m. is_some (by_number es m)) r
 greatest_whole p es n r all is h = greatest_like p (λ m. is_some (by_number es m))
     (λ m. is m ∙ ap is_some (all_up_to n (by_number es) (λ m high. none_past es m (omega (arith, all, high))) m)) r h
 
 -- ---- the entries change
 
-like : (x : Index) (c d : ℕ) (f g : Footprints) → c ≤ d → ((m : ℕ) → m ≤ c → f m ≡ g m) → Indexes x c f → Indexes x d g
+like : (x : EditIndex) (c d : ℕ) (f g : Footprints) → c ≤ d → ((m : ℕ) → m ≤ c → f m ≡ g m) → Indexes x c f → Indexes x d g
 like x c d f g more e h =
     record {
       by_footprint = record {
@@ -147,13 +147,13 @@ below [] ys m h = absurd (omega (arith, h))
 below (x ∷ xs) ys zero h = refl
 below (x ∷ xs) ys (suc m) h = below xs ys m (omega (arith, h))
 
-pub more_indexed : (x : Index) (es : List kept.Entry) (y : kept.Entry) → IsIndexed x es → IsIndexed x (es ++ y ∷ [])
+pub more_indexed : (x : EditIndex) (es : List kept.LoggedEdit) (y : kept.LoggedEdit) → IsIndexed x es → IsIndexed x (es ++ y ∷ [])
 more_indexed x es y h =
     like x (length es) (length (es ++ y ∷ [])) (by_number es) (by_number (es ++ y ∷ [])) (omega (arith, length-append es (y ∷ [])))
     (λ m low. below (None ∷ kept_all es) (kept_in y ∷ []) m (omega (arith, low, kept_length es)) ∙
     ap (λ os. footprint_at_number (None ∷ os) m) (sym (append-map kept_in es (y ∷ [])))) h
 
-pub set_indexed : (x : Index) (es : List kept.Entry) (k : ℕ) (y : kept.Entry) → k < length es →
+pub set_indexed : (x : EditIndex) (es : List kept.LoggedEdit) (k : ℕ) (y : kept.LoggedEdit) → k < length es →
     Indexes x (length es) (with_footprint (by_number es) (k + 1) (kept_in y)) → IsIndexed x (slice_set es k y)
 set_indexed x es k y low h =
     let fits : suc k < suc (length (kept_all es)) = omega (arith, low, kept_length es) in
@@ -163,13 +163,13 @@ set_indexed x es k y low h =
     (λ m low. ap (λ (j : ℕ). with_footprint (by_number es) j (kept_in y) m) (add-one k) ∙ replaced (None ∷ kept_all es) (suc k) (kept_in y) m fits ∙
     ap (λ os. footprint_at_number (None ∷ os) m) all) h
   where
-    same_length : (xs : List kept.Entry) (j : ℕ) (z : kept.Entry) → length (slice_set xs j z) ≡ length xs
+    same_length : (xs : List kept.LoggedEdit) (j : ℕ) (z : kept.LoggedEdit) → length (slice_set xs j z) ≡ length xs
     same_length [] j z = refl
     same_length (u ∷ xs) zero z = refl
     same_length (u ∷ xs) (suc j) z = ap (λ (n : ℕ). suc n) (same_length xs j z)
 
-pub undone_indexed : (es : List kept.Entry) (k : ℕ) (x : kept.Entry) → slice_get es k ≡ Some x → k < length es →
-    (old new : Index) (r : Result ℕ Refusal) (y : kept.Entry) (b d : Contents) → IsIndexed old es → IfOk r (λ n. TakenBack x n y b d)
+pub undone_indexed : (es : List kept.LoggedEdit) (k : ℕ) (x : kept.LoggedEdit) → slice_get es k ≡ Some x → k < length es →
+    (old new : EditIndex) (r : Result ℕ Refusal) (y : kept.LoggedEdit) (b d : Contents) → IsIndexed old es → IfOk r (λ n. TakenBack x n y b d)
     → OnOk r ((count : ℕ) (footprints : Footprints) → Indexes old count footprints → footprints (k + 1) ≡ kept_in x →
     Indexes new count (with_footprint footprints (k + 1) None)) → OnErr r (y ≡ x) → OnErr r (new ≡ old) → IsIndexed new (slice_set es k y)
 undone_indexed es k x is low old new (Ok n) y b d h ok taken entry same =
@@ -180,7 +180,7 @@ undone_indexed es k x is low old new (Ok n) y b d h ok taken entry same =
 undone_indexed es k x is low old new (Err why) y b d h ok taken entry same =
     subst (λ fs. IsIndexed new fs) (sym (ap (slice_set es k) entry ∙ set_same es k x is es k x is)) (subst (λ i. IsIndexed i es) (sym same) h)
 
-pub still_indexed : {X : Type 0} (x : Index) (es fs : List kept.Entry) (r : Result X Refusal) → IsIndexed x es →
-    OnOk r ((y : kept.Entry) × (fs ≡ es ++ y ∷ [])) → OnErr r (fs ≡ es) → IsIndexed x fs
+pub still_indexed : {X : Type 0} (x : EditIndex) (es fs : List kept.LoggedEdit) (r : Result X Refusal) → IsIndexed x es →
+    OnOk r ((y : kept.LoggedEdit) × (fs ≡ es ++ y ∷ [])) → OnErr r (fs ≡ es) → IsIndexed x fs
 still_indexed x es fs (Ok n) h more stays = subst (λ gs. IsIndexed x gs) (sym more.1) (more_indexed x es more.0 h)
 still_indexed x es fs (Err why) h more stays = subst (λ gs. IsIndexed x gs) (sym stays) h

@@ -8,14 +8,14 @@ use Rattle.selective_undo.proofs.Log.{get-map, footprint_there, undo_least}
 use Rattle.wb_cells.specs.Cells.{Cells}
 use Rattle.wb_cells.specs.Schema.{workbook}
 use Rattle.wb_edit.specs.declared.refusal.Refusal.TheVariants.{Blocked}
-use Rattle.wb_log.specs.declared.entry.Entry as kept
+use Rattle.wb_log.specs.declared.entry.LoggedEdit as kept
 use Rattle.wb_log.specs.Cascades.{IsFree}
 use Rattle.wb_log.specs.Kept.{kept_in, kept_all, Shows, numbered, numbered_entries, entries_meant, undo_blocker, MayUndo}
 use Rattle.wb_log.proofs.Entries.{history-log, kept-log}
 use Rattle.wb_log.proofs.Seen.{entry_in}
 use Rattle.wb_log.proofs.Whole.{free_in_past}
 
-module _ (s : Cells) (es : List kept.Entry) (shows : Shows es s) (k : ℕ) where
+module _ (s : Cells) (es : List kept.LoggedEdit) (shows : Shows es s) (k : ℕ) where
   same_footprints : kept_all es ≡ footprints (traces (entries_meant es))
   same_footprints = sym (kept-log es) ∙ shows.footprints ∙ ap (λ h. footprints (traces h)) (history-log es)
 
@@ -26,7 +26,7 @@ module _ (s : Cells) (es : List kept.Entry) (shows : Shows es s) (k : ℕ) where
       let found = undo_least (traces (entries_meant es)) k (k + 2) m t can.in_force (rw (← add-one k, ← same_footprints) first) in
       absurd (can.unblocked found.0 found.2.holds)
 
-  kept_there : (t : Trace workbook) → CanUndo (entries_meant es) k t → (x : kept.Entry) → slice_get es k ≡ Some x → kept_in x ≡ Some (footprint_of t)
+  kept_there : (t : Trace workbook) → CanUndo (entries_meant es) k t → (x : kept.LoggedEdit) → slice_get es k ≡ Some x → kept_in x ≡ Some (footprint_of t)
   kept_there t can x is =
       let here : slice_get (kept_all es) k ≡ Some (kept_in x) = get-map kept_in es k ∙ ap (option_map kept_in) is in
       let there : slice_get (kept_all es) k ≡ Some (Some (footprint_of t)) =

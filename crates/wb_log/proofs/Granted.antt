@@ -8,7 +8,7 @@ use Rattle.selective_undo.proofs.Redo.{redo_law}
 use Rattle.selective_undo.proofs.Undo.{undo_law}
 use Rattle.wb_cells.specs.Cells.{Cells}
 use Rattle.wb_cells.specs.Schema.{workbook}
-use Rattle.wb_log.specs.declared.entry.Entry as kept
+use Rattle.wb_log.specs.declared.entry.LoggedEdit as kept
 use Rattle.wb_edit.specs.declared.refusal.Refusal.{Refusal}
 use Rattle.wb_log.specs.Past.{Numbered, meant, entry_at, out_of_force, into_force}
 use Rattle.wb_log.specs.Replies.{UndoReply, LastReply, RedoReply, SetsBack, LeavesOthers, Restores, RedoesInPlace}
@@ -25,7 +25,7 @@ redo_meant k [] = refl
 redo_meant zero (x ∷ es) = elim x.in_force as (λ b. redo zero (entry_at x.edit b ∷ meant es) ≡ entry_at x.edit true ∷ meant es) [ true ↦ refl | false ↦ refl ]
 redo_meant (suc k) (x ∷ es) = ap (λ h. entry_at x.edit x.in_force ∷ h) (redo_meant k es)
 
-module _ (s : Cells) (es : List kept.Entry) (fs : List Numbered) (shows : Shows es s) where
+module _ (s : Cells) (es : List kept.LoggedEdit) (fs : List Numbered) (shows : Shows es s) where
   legal : IsLegal (entries_meant es)
   legal = subst IsLegal (history-log es) shows.legal
 

@@ -8,8 +8,8 @@ use Rattle.selective_undo.specs.Log.{Footprint, footprint_of, footprints, blocks
 use Rattle.selective_undo.proofs.Log.{get-map, footprint_there}
 use Rattle.wb_cells.specs.Cells.{Cells}
 use Rattle.wb_cells.specs.Schema.{workbook}
-use Rattle.wb_log.specs.declared.entry.Entry as kept
-use Rattle.wb_log.specs.declared.entry.Kept.{Kept}
+use Rattle.wb_log.specs.declared.entry.LoggedEdit as kept
+use Rattle.wb_log.specs.declared.entry.UndoData.{UndoData}
 use Rattle.wb_edit.specs.declared.refusal.Refusal.{Refusal}
 use Rattle.wb_edit.specs.declared.refusal.Refusal.TheVariants.{BadRequest, BadLiteral, Refused, NoSuchEdit, NotInForce, InForce as IsInForce, Blocked}
 use Rattle.wb_edit.specs.declared.refusal.Refusal.TheVariants.{RefusedInPlace, NoMemory, StrangePass}
@@ -20,24 +20,24 @@ use Rattle.wb_log.proofs.Entries.{history-log, kept-log}
 
 -- ---- in what is kept
 
-some_footprint : (o : Option Kept) → is_some o ≡ true → (f : Footprint workbook) × (option_map (λ k. footprint k.footprint k.inverse) o ≡ Some f)
+some_footprint : (o : Option UndoData) → is_some o ≡ true → (f : Footprint workbook) × (option_map (λ k. footprint k.footprint k.inverse) o ≡ Some f)
 some_footprint (Some k) e = (footprint k.footprint k.inverse, refl)
 some_footprint None e = cc
 
-no_footprint : (o : Option Kept) → is_some o ≡ false → option_map (λ k. footprint k.footprint k.inverse) o ≡ None
+no_footprint : (o : Option UndoData) → is_some o ≡ false → option_map (λ k. footprint k.footprint k.inverse) o ≡ None
 no_footprint (Some k) e = cc
 no_footprint None e = refl
 
-kept_at : (es : List kept.Entry) (p : ℕ) (x : kept.Entry) → slice_get es p ≡ Some x → slice_get (kept_all es) p ≡ Some (kept_in x)
+kept_at : (es : List kept.LoggedEdit) (p : ℕ) (x : kept.LoggedEdit) → slice_get es p ≡ Some x → slice_get (kept_all es) p ≡ Some (kept_in x)
 kept_at es p x is = get-map kept_in es p ∙ ap (option_map kept_in) is
 
-pub is_latest : (es : List kept.Entry) (p : ℕ) (x : kept.Entry) → slice_get es p ≡ Some x → is_some x.kept ≡ true →
+pub is_latest : (es : List kept.LoggedEdit) (p : ℕ) (x : kept.LoggedEdit) → slice_get es p ≡ Some x → is_some x.kept ≡ true →
     ((q : ℕ) (g : Footprint workbook) → suc p ≤ q → slice_get (kept_all es) q ≡ Some (Some g) → ⊥) → IsLatest (kept_all es) (Some p)
 is_latest es p x is there none =
     let f = some_footprint x.kept there in
     (f.0, kept_at es p x is ∙ ap Some f.1, λ q g e. let not : suc p ≤ q → ⊥ = λ low. none q g low e in omega (arith, not))
 
-pub still_none : (es : List kept.Entry) (p : ℕ) (x : kept.Entry) → slice_get es p ≡ Some x → is_some x.kept ≡ false →
+pub still_none : (es : List kept.LoggedEdit) (p : ℕ) (x : kept.LoggedEdit) → slice_get es p ≡ Some x → is_some x.kept ≡ false →
     ((q : ℕ) (g : Footprint workbook) → suc p ≤ q → slice_get (kept_all es) q ≡ Some (Some g) → ⊥)
     → (q : ℕ) (g : Footprint workbook) → p ≤ q → slice_get (kept_all es) q ≡ Some (Some g) → ⊥
 still_none es p x is gone none q g low e =
@@ -51,27 +51,27 @@ still_none es p x is gone none q g low e =
 
 -- ---- among the traces
 
-footprints_are : (s : Cells) (es : List kept.Entry) → Shows es s → footprints (traces (entries_meant es)) ≡ kept_all es
+footprints_are : (s : Cells) (es : List kept.LoggedEdit) → Shows es s → footprints (traces (entries_meant es)) ≡ kept_all es
 footprints_are s es shows = ap (λ h. footprints (traces h)) (sym (history-log es)) ∙ sym shows.footprints ∙ kept-log es
 
-kept_of : (s : Cells) (es : List kept.Entry) → Shows es s → (j : ℕ) (u : Trace workbook) → InForce (traces (entries_meant es)) j u →
+kept_of : (s : Cells) (es : List kept.LoggedEdit) → Shows es s → (j : ℕ) (u : Trace workbook) → InForce (traces (entries_meant es)) j u →
     slice_get (kept_all es) j ≡ Some (Some (footprint_of u))
 kept_of s es shows j u there = ap (λ fs. slice_get fs j) (sym (footprints_are s es shows)) ∙ footprint_there (traces (entries_meant es)) j u there
 
-pub latest_is_last : (s : Cells) (es : List kept.Entry) (p : ℕ) → Shows es s → IsLatest (kept_all es) (Some p) → IsLast (traces (entries_meant es)) p
+pub latest_is_last : (s : Cells) (es : List kept.LoggedEdit) (p : ℕ) → Shows es s → IsLatest (kept_all es) (Some p) → IsLast (traces (entries_meant es)) p
 latest_is_last s es p shows latest j u there = latest.2 j (footprint_of u) (kept_of s es shows j u there)
 
-pub none_in_force : (s : Cells) (es : List kept.Entry) → Shows es s → IsLatest (kept_all es) None → (j : ℕ) (t : Trace workbook) →
+pub none_in_force : (s : Cells) (es : List kept.LoggedEdit) → Shows es s → IsLatest (kept_all es) None → (j : ℕ) (t : Trace workbook) →
     InForce (traces (entries_meant es)) j t → ⊥
 none_in_force s es shows latest j t there = latest j (footprint_of t) (kept_of s es shows j t there)
 
 -- ---- its undo is not refused but for want of memory
 
-here_is : (o : Option kept.Entry) (f : Footprint workbook) → option_map kept_in o ≡ Some (Some f) → (x : kept.Entry) × (o ≡ Some x) × (kept_in x ≡ Some f)
+here_is : (o : Option kept.LoggedEdit) (f : Footprint workbook) → option_map kept_in o ≡ Some (Some f) → (x : kept.LoggedEdit) × (o ≡ Some x) × (kept_in x ≡ Some f)
 here_is (Some x) f e = let h : kept_in x ≡ Some f = cc in (x, refl, h)
 here_is None f e = cc
 
-on_of : (o : Option Kept) (f : Footprint workbook) → option_map (λ k. footprint k.footprint k.inverse) o ≡ Some f → is_some o ≡ true
+on_of : (o : Option UndoData) (f : Footprint workbook) → option_map (λ k. footprint k.footprint k.inverse) o ≡ Some f → is_some o ≡ true
 on_of (Some k) f e = refl
 on_of None f e = cc
 
@@ -88,7 +88,7 @@ later_at ks zero q = ap (slice_get ks) (sym (zero-add q))
 later_at [] (suc n) q = refl
 later_at (k ∷ ks) (suc n) q = later_at ks n q ∙ ap (slice_get (k ∷ ks)) (sym (suc-add n q))
 
-pub latest_is_free : (es : List kept.Entry) (p : ℕ) → IsLatest (kept_all es) (Some p) → MayUndo es p None
+pub latest_is_free : (es : List kept.LoggedEdit) (p : ℕ) → IsLatest (kept_all es) (Some p) → MayUndo es p None
 latest_is_free es p latest =
     let x = here_is (slice_get es p) latest.0 (sym (get-map kept_in es p) ∙ latest.1) in
     let none : first_from (blocks_undo latest.0.touched) (p + 2) (drop (p + 1) (kept_all es)) ≡ None =
@@ -96,7 +96,7 @@ latest_is_free es p latest =
     (λ q g e. let low = latest.2 (p + 1 + q) g (sym (later_at (kept_all es) (p + 1) q) ∙ e) in absurd (omega (arith, low))) in
     (x.0, x.1, sym (ap (undo_blocker es p) x.2 ∙ ap (option_map Blocked) none))
 
-pub latest_refused : (s : Cells) (es : List kept.Entry) (p : ℕ) (why : Refusal) → Shows es s → IsLatest (kept_all es) (Some p) →
+pub latest_refused : (s : Cells) (es : List kept.LoggedEdit) (p : ℕ) (why : Refusal) → Shows es s → IsLatest (kept_all es) (Some p) →
     UndoReply (entries_meant es) p (Err why) → LastReply (entries_meant es) (Err why)
 latest_refused s es p NoSuchEdit shows latest reply =
     let x = here_is (slice_get es p) latest.0 (sym (get-map kept_in es p) ∙ latest.1) in

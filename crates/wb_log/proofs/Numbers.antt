@@ -11,8 +11,8 @@ use Rattle.wb_cells.specs.declared.cells.pattern.Pattern.TheVariants.{One}
 use Rattle.wb_cells.specs.declared.cells.pattern.Pattern.{Pattern}
 use Rattle.wb_cells.specs.declared.reads.ReadRun.{ReadRun}
 use Rattle.wb_cells.specs.Reads.{patterns_of, read_in, all_read}
-use Rattle.wb_log.specs.declared.entry.Form.{Form}
-use Rattle.wb_log.specs.declared.entry.Form.TheVariants.{Set, Copy, Irv, Member, Fill, Sets, Whole}
+use Rattle.wb_log.specs.declared.entry.RecordForm.{RecordForm}
+use Rattle.wb_log.specs.declared.entry.RecordForm.TheVariants.{Set, Copy, Irv, Member, Fill, Sets, Whole}
 use Rattle.wb_log.specs.Records.{kept_of}
 
 equal_from : (p : Ordering) → is_eq p ≡ true → p ≡ Equal
@@ -43,7 +43,7 @@ one_run (x ∷ []) r p one e = ap (λ ps. ps ++ []) e
 one_run (x ∷ y ∷ rs) r p one e = absurd (omega (arith, one))
 
 -- nothing is kept where nothing is told of the cell
-pub none_kept : (f : Form) → kept_of f None ≡ None
+pub none_kept : (f : RecordForm) → kept_of f None ≡ None
 none_kept (Set x) = refl
 none_kept (Copy x) = refl
 none_kept (Irv x) = refl

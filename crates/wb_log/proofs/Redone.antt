@@ -17,8 +17,8 @@ use Rattle.wb_edit.specs.Plans.{IsPlan}
 use Rattle.wb_cells.specs.declared.refusal.EditRefusal as command_refusal
 use Rattle.wb_edit.specs.declared.planning.PlanErr.{PlanErr}
 use Rattle.wb_edit.specs.declared.planning.PlanErr.TheVariants.{Refused as PlanRefused, NoMemory as PlanNoMemory}
-use Rattle.wb_log.specs.declared.entry.Entry as kept
-use Rattle.wb_log.specs.declared.entry.Kept.{Kept}
+use Rattle.wb_log.specs.declared.entry.LoggedEdit as kept
+use Rattle.wb_log.specs.declared.entry.UndoData.{UndoData}
 use Rattle.wb_edit.specs.declared.refusal.Refusal.TheVariants.{InForce, Blocked, RefusedInPlace, NoMemory}
 use Rattle.wb_log.specs.Past.{entry_at, into_force}
 use Rattle.wb_log.specs.Replies.{RedoReply}
@@ -38,13 +38,13 @@ count_inverse (x ∷ xs) s =
       | false ↦ count_inverse xs s
     ]
 
-in_numbers : (es : List kept.Entry) (k : ℕ) (x : kept.Entry) (q : Kept) → slice_get es k ≡ Some x →
+in_numbers : (es : List kept.LoggedEdit) (k : ℕ) (x : kept.LoggedEdit) (q : UndoData) → slice_get es k ≡ Some x →
     numbered_entries (slice_set es k (record { edit = x.edit; kept = Some q })) ≡ into_force k (numbered_entries es)
 in_numbers [] k x q is = refl
 in_numbers (z ∷ es) zero x q is = let h : z ≡ x = cc in ap (λ y. record { edit = y.edit; in_force = true } ∷ numbered_entries es) (sym h)
 in_numbers (z ∷ es) (suc k) x q is = ap (λ ns. numbered z ∷ ns) (in_numbers es k x q is)
 
-module _ (s : Cells) (es : List kept.Entry) (k : ℕ) (x : kept.Entry) (shows : Shows es s) (is : slice_get es k ≡ Some x) where
+module _ (s : Cells) (es : List kept.LoggedEdit) (k : ℕ) (x : kept.LoggedEdit) (shows : Shows es s) (is : slice_get es k ≡ Some x) where
   meant_at : slice_get (entries_meant es) k ≡ Some (entry_at x.edit (is_some x.kept))
   meant_at = get-map (λ y. entry_at y.edit y.in_force) (numbered_entries es) k ∙
       ap (option_map (λ y. entry_at y.edit y.in_force)) (get-map numbered es k ∙ ap (option_map numbered) is)
@@ -125,7 +125,7 @@ module _ (s : Cells) (es : List kept.Entry) (k : ℕ) (x : kept.Entry) (shows : 
         → Shows (slice_set es k (record { edit = x.edit; kept = Some (record { footprint = rs; inverse = inverse xs s }) })) (apply xs s)
     put_kept xs rs accepted read none =
         let after = kept_redo s (log es) k (k + 2) (meaning x.edit) xs shows log_out accepted (none_now xs rs accepted read none) in
-        let q : Kept = record { footprint = rs; inverse = inverse xs s } in
+        let q : UndoData = record { footprint = rs; inverse = inverse xs s } in
         let new : slice_set (log es) k (record { edit = meaning x.edit; kept = Some (footprint (reads (meaning x.edit) s) (inverse xs s)) }) ≡ log
         (slice_set es k (record { edit = x.edit; kept = Some q })) =
         ap (λ ps. slice_set (log es) k (record { edit = meaning x.edit; kept = Some (footprint ps (inverse xs s)) })) (sym read) ∙
@@ -142,13 +142,13 @@ module _ (s : Cells) (es : List kept.Entry) (k : ℕ) (x : kept.Entry) (shows : 
               sym (ap (λ o. count_of (inverse (written o) s)) accepted ∙ count_inverse xs s),
         )
 
-pub off_by : (o : Option Kept) (b : Bool) → b ≡ is_some o → b ≡ false → o ≡ None
+pub off_by : (o : Option UndoData) (b : Bool) → b ≡ is_some o → b ≡ false → o ≡ None
 off_by None b e f = refl
 off_by (Some q) b e f = cc
 
-module _ (s : Cells) (es : List kept.Entry) (k : ℕ) (z : kept.Entry) (shows : Shows es s) (is : slice_get es k ≡ Some z) (xs : Changes) (rs : List Pattern)
+module _ (s : Cells) (es : List kept.LoggedEdit) (k : ℕ) (z : kept.LoggedEdit) (shows : Shows es s) (is : slice_get es k ≡ Some z) (xs : Changes) (rs : List Pattern)
     (n : ℕ) (plan : PlansAgain es k s xs rs n) where
-  pub redone_kept : (y : kept.Entry) (t : Cells) → y ≡ record { edit = z.edit; kept = Some (record { footprint = rs; inverse = inverse xs s }) } →
+  pub redone_kept : (y : kept.LoggedEdit) (t : Cells) → y ≡ record { edit = z.edit; kept = Some (record { footprint = rs; inverse = inverse xs s }) } →
       t ≡ apply xs s → Shows (slice_set es k y) t
   redone_kept y t entry cells =
       let same : plan.0 ≡ z = cc (plan.1, is) in
@@ -162,6 +162,6 @@ module _ (s : Cells) (es : List kept.Entry) (k : ℕ) (z : kept.Entry) (shows : 
   pub redone_memory : RedoReply (entries_meant es) k (Err NoMemory)
   redone_memory = memory_reply s es k plan.0 shows plan.1 plan.2
 
-  pub redone_numbers : (y : kept.Entry) → y ≡ record { edit = z.edit; kept = Some (record { footprint = rs; inverse = inverse xs s }) } →
+  pub redone_numbers : (y : kept.LoggedEdit) → y ≡ record { edit = z.edit; kept = Some (record { footprint = rs; inverse = inverse xs s }) } →
       numbered_entries (slice_set es k y) ≡ into_force k (numbered_entries es)
   redone_numbers y entry = rw entry (in_numbers es k z (record { footprint = rs; inverse = inverse xs s }) is)

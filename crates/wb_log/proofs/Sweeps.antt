@@ -15,7 +15,7 @@ use Rattle.wb_footprints.specs.declared.questions.swept.SweptCells.{SweptCells}
 use Rattle.wb_footprints.specs.Relation.{IsLeast, JoinedAfter}
 use Rattle.wb_footprints.specs.Swept.{AreSwept}
 use Rattle.wb_footprints.proofs.Added.{at_self, at_other, added_here, added_from}
-use Rattle.wb_log.specs.declared.entry.Entry as kept
+use Rattle.wb_log.specs.declared.entry.LoggedEdit as kept
 use Rattle.wb_log.specs.Kept.{by_number}
 use Rattle.wb_log.proofs.Entered.{none_past}
 use Rattle.wb_log.specs.Needed.{NeedsKept, FromFootprints, itself, through, AreFromFootprints, Joined}
@@ -53,7 +53,7 @@ on_ok_needing (Ok x) idx old new footprints m f bs is same indexed h =
 on_ok_needing (Err e) idx old new footprints m f bs is same indexed h = tt
 
 -- an edit that needs another one is in the log
-pub within_log : (es : List kept.Entry) (n m : ℕ) → NeedsKept (by_number es) n m → n ≤ length es
+pub within_log : (es : List kept.LoggedEdit) (n m : ℕ) → NeedsKept (by_number es) n m → n ≤ length es
 within_log es n m need = elim (cases_lt (length es) n) [
   | inl past ↦ absurd (true≢false (sym need.needs ∙ ap (blocks_undo need.footprint.touched) (none_past es n past)))
   | inr low ↦ low

@@ -10,7 +10,7 @@ use Rattle.selective_undo.proofs.Log.{append-map, get-map, trace_there}
 use Rattle.wb_cells.specs.Cells.{saturating_add}
 use Rattle.wb_cells.specs.Schema.{workbook}
 use Rattle.wb_edit.specs.Edits.{meaning}
-use Rattle.wb_log.specs.declared.entry.Entry as kept
+use Rattle.wb_log.specs.declared.entry.LoggedEdit as kept
 use Rattle.wb_edit.specs.declared.refusal.Refusal.TheVariants.{NotInForce, NoMemory}
 use Rattle.wb_log.specs.Past.{Numbered, meant, entry_at, out_of_force, AreValid}
 use Rattle.wb_log.specs.Replies.{UndoReply}
@@ -110,7 +110,7 @@ valid_out n es fs valid out = subst AreValid (sym out) (valid_force false n es v
 
 -- ---- the dependents
 
-module _ (s : _) (es : List kept.Entry) (k : ℕ) (x : kept.Entry) (shows : Shows es s) (is : slice_get es k ≡ Some x) where
+module _ (s : _) (es : List kept.LoggedEdit) (k : ℕ) (x : kept.LoggedEdit) (shows : Shows es s) (is : slice_get es k ≡ Some x) where
   meant_here : slice_get (entries_meant es) k ≡ Some (entry_at x.edit (is_some x.kept))
   meant_here = get-map (λ y. entry_at y.edit y.in_force) (numbered_entries es) k ∙
       ap (option_map (λ y. entry_at y.edit y.in_force)) (get-map numbered es k ∙ ap (option_map numbered) is)

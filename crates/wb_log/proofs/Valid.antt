@@ -12,8 +12,8 @@ use Rattle.wb_cells.proofs.Empty.{empty_is_well_formed}
 use Rattle.wb_edit.specs.declared.edit.Edit as command
 use Rattle.wb_edit.specs.Edits.{meaning, IsValid}
 use Rattle.wb_edit.proofs.EachEdit.{keeps_well_formed}
-use Rattle.wb_log.specs.declared.entry.Entry as kept
-use Rattle.wb_log.specs.declared.entry.Kept.{Kept}
+use Rattle.wb_log.specs.declared.entry.LoggedEdit as kept
+use Rattle.wb_log.specs.declared.entry.UndoData.{UndoData}
 use Rattle.wb_edit.specs.declared.refusal.Refusal.{Refusal}
 use Rattle.wb_log.specs.Past.{Numbered, meant, entry_at, set_force, AreValid}
 use Rattle.wb_log.specs.Kept.{Shows, numbered_entries, MayUndo, LeavesWellFormed}
@@ -30,12 +30,12 @@ valid_force b k [] valid = tt
 valid_force b zero (x ∷ es) valid = valid
 valid_force b (suc k) (x ∷ es) valid = (valid.0, valid_force b k es valid.1)
 
-valid_at : (es : List kept.Entry) (k : ℕ) (x : kept.Entry) → AreValid (numbered_entries es) → slice_get es k ≡ Some x → IsValid x.edit
+valid_at : (es : List kept.LoggedEdit) (k : ℕ) (x : kept.LoggedEdit) → AreValid (numbered_entries es) → slice_get es k ≡ Some x → IsValid x.edit
 valid_at [] k x valid is = cc
 valid_at (y ∷ es) zero x valid is = let h : y ≡ x = cc in subst (λ z. IsValid z.edit) h valid.0
 valid_at (y ∷ es) (suc k) x valid is = valid_at es k x valid.1 is
 
-valid_put : (es : List kept.Entry) (k : ℕ) (x : kept.Entry) (o : Option Kept) → AreValid (numbered_entries es) → IsValid x.edit →
+valid_put : (es : List kept.LoggedEdit) (k : ℕ) (x : kept.LoggedEdit) (o : Option UndoData) → AreValid (numbered_entries es) → IsValid x.edit →
     AreValid (numbered_entries (slice_set es k (record { edit = x.edit; kept = o })))
 valid_put [] k x o valid v = tt
 valid_put (y ∷ es) zero x o valid v = (v, valid.1)
@@ -51,48 +51,48 @@ replay_kept (x ∷ es) s valid h =
       | false ↦ replay_kept es s valid.1 h
     ]
 
-pub well_formed : (es : List kept.Entry) (s : Cells) → Shows es s → AreValid (numbered_entries es) → IsWellFormed s
+pub well_formed : (es : List kept.LoggedEdit) (s : Cells) → Shows es s → AreValid (numbered_entries es) → IsWellFormed s
 well_formed es s shows valid =
     subst IsWellFormed (sym (shows.shown ∙ ap replay (history-log es))) (replay_kept (numbered_entries es) empty valid empty_is_well_formed)
 
 -- an edit that is accepted leaves a well-formed workbook
-pub planned_well_formed : (es : List kept.Entry) (s : Cells) (e : command.Edit) (xs : Changes) → Shows es s → AreValid (numbered_entries es) → IsValid e →
+pub planned_well_formed : (es : List kept.LoggedEdit) (s : Cells) (e : command.Edit) (xs : Changes) → Shows es s → AreValid (numbered_entries es) → IsValid e →
     outcome (meaning e) s ≡ Ok xs → IsWellFormed (apply xs s)
 planned_well_formed es s e xs shows valid v accepted =
     subst (λ o. IsWellFormed (apply (written o) s)) accepted (keeps_well_formed e s v (well_formed es s shows valid))
 
-pub planned_again_well_formed : (es : List kept.Entry) (s : Cells) (k : ℕ) (x : kept.Entry) (xs : Changes) → Shows es s → AreValid (numbered_entries es) →
+pub planned_again_well_formed : (es : List kept.LoggedEdit) (s : Cells) (k : ℕ) (x : kept.LoggedEdit) (xs : Changes) → Shows es s → AreValid (numbered_entries es) →
     slice_get es k ≡ Some x → outcome (meaning x.edit) s ≡ Ok xs → IsWellFormed (apply xs s)
 planned_again_well_formed es s k x xs shows valid is accepted = planned_well_formed es s x.edit xs shows valid (valid_at es k x valid is) accepted
 
 -- so does an undo that may be made
-pub undone_well_formed : (es : List kept.Entry) (s : Cells) (k : ℕ) (x : kept.Entry) → Shows es s → AreValid (numbered_entries es) → slice_get es k ≡ Some x →
+pub undone_well_formed : (es : List kept.LoggedEdit) (s : Cells) (k : ℕ) (x : kept.LoggedEdit) → Shows es s → AreValid (numbered_entries es) → slice_get es k ≡ Some x →
     MayUndo es k None → LeavesWellFormed x s
 undone_well_formed es s k x shows valid is may q has =
     let b : Contents = record { cells = s; writes = 0 } in
     let d : Contents = record { cells = apply q.inverse s; writes = saturating_add 0 (count_of q.inverse) } in
-    let y : kept.Entry = record { edit = x.edit; kept = None } in
+    let y : kept.LoggedEdit = record { edit = x.edit; kept = None } in
     let shows_after = taken_kept es k x is (count_of q.inverse) y b d shows may (q, has, refl, refl, refl, refl) in
     well_formed (slice_set es k y) (apply q.inverse s) shows_after (valid_put es k x None valid (valid_at es k x valid is))
 
 -- ---- what a history keeps
 
-pub keeps_valid : {X : Type 0} (b : Bool) (k : ℕ) (es fs : List kept.Entry) (r : Result X Refusal) → AreValid (numbered_entries es) →
+pub keeps_valid : {X : Type 0} (b : Bool) (k : ℕ) (es fs : List kept.LoggedEdit) (r : Result X Refusal) → AreValid (numbered_entries es) →
     OnOk r (numbered_entries fs ≡ set_force b k (numbered_entries es)) → OnErr r (numbered_entries fs ≡ numbered_entries es) → AreValid (numbered_entries fs)
 keeps_valid b k es fs (Ok n) valid ok stays = subst AreValid (sym ok) (valid_force b k (numbered_entries es) valid)
 keeps_valid b k es fs (Err why) valid ok stays = subst AreValid (sym stays) valid
 
-pub keeps_valid_last : (es fs : List kept.Entry) (r : Result (ℕ × ℕ) Refusal) → AreValid (numbered_entries es) →
+pub keeps_valid_last : (es fs : List kept.LoggedEdit) (r : Result (ℕ × ℕ) Refusal) → AreValid (numbered_entries es) →
     IfOk r (λ q. numbered_entries fs ≡ set_force false (q.0 - 1) (numbered_entries es)) → OnErr r (numbered_entries fs ≡ numbered_entries es) →
     AreValid (numbered_entries fs)
 keeps_valid_last es fs (Ok q) valid ok stays = subst AreValid (sym ok) (valid_force false (q.0 - 1) (numbered_entries es) valid)
 keeps_valid_last es fs (Err why) valid ok stays = subst AreValid (sym stays) valid
 
-pub keeps_valid_more : {X : Type 0} (es fs : List kept.Entry) (e : command.Edit) (r : Result X Refusal) → AreValid (numbered_entries es) → IsValid e →
+pub keeps_valid_more : {X : Type 0} (es fs : List kept.LoggedEdit) (e : command.Edit) (r : Result X Refusal) → AreValid (numbered_entries es) → IsValid e →
     OnOk r (numbered_entries fs ≡ numbered_entries es ++ record { edit = e; in_force = true } ∷ []) → OnErr r (fs ≡ es) → AreValid (numbered_entries fs)
 keeps_valid_more es fs e (Ok n) valid v ok stays = subst AreValid (sym ok) (valid_append (numbered_entries es) (record { edit = e; in_force = true }) valid v)
 keeps_valid_more es fs e (Err why) valid v ok stays = subst (λ gs. AreValid (numbered_entries gs)) (sym stays) valid
 
 -- what a loan of a whole list of entries gives back
-pub whole_slice : (n : ℕ) (xs ys : List kept.Entry) → n ≡ length xs → take n (xs ++ ys) ≡ xs
+pub whole_slice : (n : ℕ) (xs ys : List kept.LoggedEdit) → n ≡ length xs → take n (xs ++ ys) ≡ xs
 whole_slice n xs ys same = ap (λ m. take m (xs ++ ys)) same ∙ take-append_seam xs ys

@@ -2,8 +2,8 @@
 use Rattle.std.specs.Prelude.{◌≡◌, ℕ, ◌≤◌, nat_lt, List, length, None, is_some, if◌then◌else◌}
 use Rattle.wb_footprints.specs.Footprints.{Footprints, IsIndexOf}
 use Rattle.wb_footprints.specs.Numbers.{numbered}
-use Rattle.wb_log.specs.declared.entry.Entry.{Entry}
-use Rattle.wb_log.specs.declared.index.Index.{Index}
+use Rattle.wb_log.specs.declared.entry.LoggedEdit.{LoggedEdit}
+use Rattle.wb_log.specs.declared.index.EditIndex.{EditIndex}
 use Rattle.wb_log.specs.declared.index.by_footprint.ByFootprint.{ByFootprint}
 use Rattle.wb_log.specs.declared.index.in_force.InForce.{InForce}
 use Rattle.wb_cells.specs.Cells.{Cells}
@@ -27,16 +27,16 @@ pub record AreInForce (in_force : InForce) (count : ℕ) (footprints : Footprint
   pub numbers : (k : ℕ) → numbered in_force.numbers k ≡ is_some (up_to in_force.entered footprints k)
 
 -- The same of both: each index is of as much as has entered it.
-pub record Indexes (index : Index) (count : ℕ) (footprints : Footprints) : Type 0 where
+pub record Indexes (index : EditIndex) (count : ℕ) (footprints : Footprints) : Type 0 where
   pub by_footprint : IsByFootprint index.by_footprint count footprints
   pub in_force : AreInForce index.in_force count footprints
 
 -- An index is of what is kept of the edits.
-abbrev pub IsIndexed : Index → List Entry → Type 0
+abbrev pub IsIndexed : EditIndex → List LoggedEdit → Type 0
 IsIndexed index es = Indexes index (length es) (by_number es)
 
 -- What a history keeps: its entries show the cells of its book, its edits are valid, and its index is of what is kept.
-pub record Keeps (es : List Entry) (s : Cells) (index : Index) : Type 0 where
+pub record Keeps (es : List LoggedEdit) (s : Cells) (index : EditIndex) : Type 0 where
   pub shows : Shows es s
   pub valid : AreValid (numbered_entries es)
   pub indexed : IsIndexed index es

@@ -13,8 +13,8 @@ use Rattle.wb_cells.specs.declared.refusal.EditRefusal as command_refusal
 use Rattle.wb_cells.specs.Schema.{workbook}
 use Rattle.wb_edit.specs.Edits.{meaning}
 use Rattle.wb_footprints.specs.Footprints.{Footprints}
-use Rattle.wb_log.specs.declared.entry.Entry as kept
-use Rattle.wb_log.specs.declared.entry.Kept.{Kept}
+use Rattle.wb_log.specs.declared.entry.LoggedEdit as kept
+use Rattle.wb_log.specs.declared.entry.UndoData.{UndoData}
 use Rattle.wb_edit.specs.declared.refusal.Refusal.{Refusal}
 use Rattle.wb_edit.specs.declared.refusal.Refusal.TheVariants.{Refused, NotInForce, Blocked, RefusedInPlace, NoMemory}
 use Rattle.wb_log.specs.Past.{Numbered, meant}
@@ -23,10 +23,10 @@ abbrev pub footprint : List Pattern → Changes → Footprint workbook
 footprint reads before = record { reads = reads; touched = before }
 
 -- what an entry keeps
-abbrev pub kept_in : kept.Entry → Option (Footprint workbook)
+abbrev pub kept_in : kept.LoggedEdit → Option (Footprint workbook)
 kept_in x = option_map (λ k. footprint k.footprint k.inverse) x.kept
 
-abbrev pub kept_all : List kept.Entry → List (Option (Footprint workbook))
+abbrev pub kept_all : List kept.LoggedEdit → List (Option (Footprint workbook))
 kept_all es = map kept_in es
 
 -- the footprint kept at a number, if one is
@@ -36,51 +36,51 @@ footprint_at_number (x ∷ xs) zero = x
 footprint_at_number (x ∷ xs) (suc n) = footprint_at_number xs n
 
 -- what is kept of the edits by their numbers, from 1
-abbrev pub by_number : List kept.Entry → Footprints
+abbrev pub by_number : List kept.LoggedEdit → Footprints
 by_number es = footprint_at_number (None ∷ kept_all es)
 
-abbrev pub logged : kept.Entry → Logged workbook
+abbrev pub logged : kept.LoggedEdit → Logged workbook
 logged x = record { edit = meaning x.edit; kept = kept_in x }
 
-abbrev pub log : List kept.Entry → List (Logged workbook)
+abbrev pub log : List kept.LoggedEdit → List (Logged workbook)
 log es = map logged es
 
 -- The entries show the cells: they are legal, the cells are their replay, and what is kept of each edit in force is what
 -- it read and wrote in the state that the edits in force before it give.
-abbrev pub Shows : List kept.Entry → Cells → Type 0
+abbrev pub Shows : List kept.LoggedEdit → Cells → Type 0
 Shows es s = IsKept {w = workbook} s (log es)
 
 -- the entries show some cells
-abbrev pub IsShown : List kept.Entry → Type 0
+abbrev pub IsShown : List kept.LoggedEdit → Type 0
 IsShown es = (s : Cells) × Shows es s
 
-abbrev pub numbered : kept.Entry → Numbered
+abbrev pub numbered : kept.LoggedEdit → Numbered
 numbered x = record { edit = x.edit; in_force = is_some x.kept }
 
-abbrev pub numbered_entries : List kept.Entry → List Numbered
+abbrev pub numbered_entries : List kept.LoggedEdit → List Numbered
 numbered_entries es = map numbered es
 
-abbrev pub entries_meant : List kept.Entry → List (h.Entry workbook)
+abbrev pub entries_meant : List kept.LoggedEdit → List (h.Entry workbook)
 entries_meant es = meant (numbered_entries es)
 
 -- the least later edit, in force, that needs edit k
-abbrev pub undo_blocker : List kept.Entry → ℕ → Option (Footprint workbook) → Option Refusal
+abbrev pub undo_blocker : List kept.LoggedEdit → ℕ → Option (Footprint workbook) → Option Refusal
 undo_blocker es k None = Some NotInForce
 undo_blocker es k (Some f) = option_map Blocked (first_from (blocks_undo f.touched) (k + 2) (drop (k + 1) (kept_all es)))
 
-abbrev pub MayUndo : List kept.Entry → ℕ → Option Refusal → Type 0
-MayUndo es k r = (x : kept.Entry) × (slice_get es k ≡ Some x) × (r ≡ undo_blocker es k (kept_in x))
+abbrev pub MayUndo : List kept.LoggedEdit → ℕ → Option Refusal → Type 0
+MayUndo es k r = (x : kept.LoggedEdit) × (slice_get es k ≡ Some x) × (r ≡ undo_blocker es k (kept_in x))
 
 -- an entry's edit is taken back, with n cells
-abbrev pub TakenBack : kept.Entry → ℕ → kept.Entry → Contents → Contents → Type 0
-TakenBack x n y b d = (k : Kept) × (x.kept ≡ Some k) × (n ≡ count_of k.inverse) × (y ≡ record { edit = x.edit; kept = None }) ×
+abbrev pub TakenBack : kept.LoggedEdit → ℕ → kept.LoggedEdit → Contents → Contents → Type 0
+TakenBack x n y b d = (k : UndoData) × (x.kept ≡ Some k) × (n ≡ count_of k.inverse) × (y ≡ record { edit = x.edit; kept = None }) ×
     (d.cells ≡ apply k.inverse b.cells) × (d.writes ≡ saturating_add b.writes n)
 
 -- to take an entry's edit back leaves a well-formed workbook
-abbrev pub LeavesWellFormed : kept.Entry → Cells → Type 0
-LeavesWellFormed x s = (k : Kept) → x.kept ≡ Some k → IsWellFormed (apply k.inverse s)
+abbrev pub LeavesWellFormed : kept.LoggedEdit → Cells → Type 0
+LeavesWellFormed x s = (k : UndoData) → x.kept ≡ Some k → IsWellFormed (apply k.inverse s)
 
-abbrev pub refusal_of : kept.Entry → Refusal
+abbrev pub refusal_of : kept.LoggedEdit → Refusal
 refusal_of x = elim x.kept [ None ↦ NotInForce | Some k ↦ NoMemory ]
 
 -- why there is no plan, as a refusal
@@ -89,21 +89,21 @@ plan_refusal (PlanRefused why footprint) = Refused why
 plan_refusal PlanNoMemory = NoMemory
 
 -- the number of the least later edit, in force, that a plan in the place of edit k meets
-abbrev pub redo_blocker : List kept.Entry → ℕ → List Pattern → Changes → Option ℕ
+abbrev pub redo_blocker : List kept.LoggedEdit → ℕ → List Pattern → Changes → Option ℕ
 redo_blocker es k rs xs = first_from (blocks_redo (footprint rs xs)) (k + 2) (drop (k + 1) (kept_all es))
 
 abbrev pub in_place : Option ℕ → command_refusal.EditRefusal → Refusal
 in_place (Some by) why = Blocked by
 in_place None why = RefusedInPlace why
 
-abbrev pub stopped_refusal : List kept.Entry → ℕ → PlanErr → Refusal
+abbrev pub stopped_refusal : List kept.LoggedEdit → ℕ → PlanErr → Refusal
 stopped_refusal es k (PlanRefused why rs) = in_place (redo_blocker es k rs []) why
 stopped_refusal es k PlanNoMemory = NoMemory
 
 -- Edit k is out of force, its plan is this, and nothing is in its way.
-abbrev pub PlansAgain : List kept.Entry → ℕ → Cells → Changes → List Pattern → ℕ → Type 0
+abbrev pub PlansAgain : List kept.LoggedEdit → ℕ → Cells → Changes → List Pattern → ℕ → Type 0
 PlansAgain es k s xs rs n =
-    (x : kept.Entry) × (slice_get es k ≡ Some x) × (x.kept ≡ None) × (outcome (meaning x.edit) s ≡ Ok xs) × (rs ≡ reads (meaning x.edit) s) × (n ≡ count_of xs)
+    (x : kept.LoggedEdit) × (slice_get es k ≡ Some x) × (x.kept ≡ None) × (outcome (meaning x.edit) s ≡ Ok xs) × (rs ≡ reads (meaning x.edit) s) × (n ≡ count_of xs)
     × (redo_blocker es k rs xs ≡ None)
 
 -- the place of the latest entry that keeps something, or none does

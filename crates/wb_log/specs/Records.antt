@@ -19,10 +19,10 @@ use Rattle.wb_log.specs.declared.entry.Before.{Before}
 use Rattle.wb_log.specs.declared.entry.Before.TheVariants.{Number, Present, Nothing}
 use Rattle.wb_log.specs.declared.entry.Was.{Was}
 use Rattle.wb_log.specs.declared.entry.Was.TheVariants.{Untold, Number as WasNumber, Present as WasPresent, Nothing as WasNothing}
-use Rattle.wb_log.specs.declared.entry.Entry.{Entry}
-use Rattle.wb_log.specs.declared.entry.Kept.{Kept}
-use Rattle.wb_log.specs.declared.entry.Form.{Form}
-use Rattle.wb_log.specs.declared.entry.Form.TheVariants.{Set, Copy, Irv, Member as OneMember, Fill, Sets, Whole}
+use Rattle.wb_log.specs.declared.entry.LoggedEdit.{LoggedEdit}
+use Rattle.wb_log.specs.declared.entry.UndoData.{UndoData}
+use Rattle.wb_log.specs.declared.entry.RecordForm.{RecordForm}
+use Rattle.wb_log.specs.declared.entry.RecordForm.TheVariants.{Set, Copy, Irv, Member as OneMember, Fill, Sets, Whole}
 use Rattle.wb_log.specs.declared.entry.LentEdit.{LentEdit}
 use Rattle.wb_log.specs.declared.entry.LentEdit.TheVariants.{Own, Lent as LentOne}
 use Rattle.wb_log.specs.declared.entry.LentFootprint.{LentFootprint}
@@ -81,11 +81,11 @@ abbrev pub cell_before : Cell → Before → Changes
 cell_before c old = record { cell = c; value = value_before old } ∷ []
 
 -- both, kept of an edit that read patterns and changed such a cell, if it is in force
-abbrev pub one_kept : List Pattern → Cell → Option Before → Option Kept
+abbrev pub one_kept : List Pattern → Cell → Option Before → Option UndoData
 one_kept rs c old = option_map (λ b. record { footprint = rs; inverse = cell_before c b }) old
 
 -- what is kept of a form's edit, by what the one cell held that it changed, if it is in force
-abbrev pub kept_of : Form → Option Before → Option Kept
+abbrev pub kept_of : RecordForm → Option Before → Option UndoData
 kept_of (Set x) old = one_kept (element_reads x.array x.place) (Element x.array x.place) old
 kept_of (Copy x) old =
     let y = x.value in
@@ -99,7 +99,7 @@ kept_of (Sets x) old = None
 kept_of (Whole w) old = None
 
 -- the entry that a form stands for
-abbrev pub shown : Form → Entry
+abbrev pub shown : RecordForm → LoggedEdit
 shown (Set x) = record { edit = OneCommand (SetTo x.array x.place x.value); kept = kept_of (Set x) (before_in x.was) }
 shown (Copy x) = record { edit = OneCommand (CopyTo x.value.array x.value.place x.value.source x.value.from x.value.more); kept = kept_of (Copy x) (before_in x.value.was) }
 shown (Irv x) = record { edit = OneCommand (IrvTo x.array x.value); kept = kept_of (Irv x) (before_in x.was) }
@@ -109,7 +109,7 @@ shown (Sets x) = record { edit = x.value.edit; kept = x.value.were }
 shown (Whole w) = w.value
 
 -- what is kept of a form's edit once it is told what the cells held: of sets as one edit that, and of another form what was
-abbrev pub held_of : Form → Kept → Option Kept
+abbrev pub held_of : RecordForm → UndoData → Option UndoData
 held_of (Sets x) were = Some were
 held_of (Set x) were = kept_of (Set x) (before_in x.was)
 held_of (Copy x) were = kept_of (Copy x) (before_in x.value.was)

@@ -11,7 +11,7 @@ ghost use Rattle.wb_cells.specs.Schema.{workbook};
 ghost use Rattle.wb_log.specs.Kept.{footprint, kept_in, kept_all};
 ghost use Rattle.wb_log.specs.Records.{lent_footprint};
 
-use crate::entry::{LentFootprint, Record};
+use crate::entry::{EditRecord, LentFootprint};
 use crate::steps::making::is_same;
 use wb_cells::{Cell, Changes, Pattern, ReadRun};
 
@@ -103,7 +103,7 @@ fn is_met(kept: &LentFootprint<'_>, cells: &Changes) -> bool
     meets_any(reads, runs, kept.before(), cells)
 }
 
-fn blocks_undo(x: &Record, before: &Changes) -> bool
+fn blocks_undo(x: &EditRecord, before: &Changes) -> bool
     ensures { result ≡ blocks_undo before.now (kept_in x.now) }
 {
     match x.kept() {
@@ -112,7 +112,7 @@ fn blocks_undo(x: &Record, before: &Changes) -> bool
     }
 }
 
-fn blocks_redo(x: &Record, reads: &[Pattern], runs: &[ReadRun], delta: &Changes) -> bool
+fn blocks_redo(x: &EditRecord, reads: &[Pattern], runs: &[ReadRun], delta: &Changes) -> bool
     ensures { result ≡ blocks_redo (footprint (reads.now ++ all_read runs.now) delta.now) (kept_in x.now) }
 {
     match x.kept() {
@@ -127,7 +127,7 @@ fn blocks_redo(x: &Record, reads: &[Pattern], runs: &[ReadRun], delta: &Changes)
 }
 
 /// The number of the first edit in force that needs one that wrote the cells.
-pub(crate) fn first_to_block_undo(later: &[Record], from: u64, before: &Changes) -> Option<u64>
+pub(crate) fn first_to_block_undo(later: &[EditRecord], from: u64, before: &Changes) -> Option<u64>
     requires { from + length later.now < 2 ^ 64 }
     ensures { result ≡ first_from (blocks_undo before.now) from (kept_all later.now) }
 {
@@ -143,7 +143,7 @@ pub(crate) fn first_to_block_undo(later: &[Record], from: u64, before: &Changes)
 
 /// The number of the first edit in force that needs, or is needed by, one with these reads and changes.
 pub(crate) fn first_to_block_redo(
-    later: &[Record],
+    later: &[EditRecord],
     from: u64,
     reads: &[Pattern],
     runs: &[ReadRun],

@@ -18,10 +18,10 @@ pub(crate) struct CellsWere {
 }
 
 impl Model for CellsWere {
-    ghost use Rattle.wb_log.specs.declared.entry.Kept.{Kept};
+    ghost use Rattle.wb_log.specs.declared.entry.UndoData.{UndoData};
     ghost use Rattle.wb_log.specs.Sets.{each_read, cells_in, AreCells};
 
-    ghost Value = { Kept };
+    ghost Value = { UndoData };
 
     ghost view = { λ a. record { footprint = each_read a.first (cells_in a.cells); inverse = cells_in a.cells } };
 

@@ -28,16 +28,16 @@ use wb_range::NoMemory;
 
 /// What an edit in force read, and what takes it back.
 #[derive(Drop)]
-pub(crate) struct Kept {
+pub(crate) struct UndoData {
     pub(crate) footprint: ReadFootprint,
     pub(crate) inverse: Inverse,
 }
 
 /// An edit, with what is kept of it while it is in force.
 #[derive(Drop)]
-pub(crate) struct Entry {
+pub(crate) struct LoggedEdit {
     pub(crate) edit: Edit,
-    pub(crate) kept: Option<Kept>,
+    pub(crate) kept: Option<UndoData>,
 }
 
 /// What a cell held before an edit that changed no other.
@@ -66,7 +66,7 @@ pub(crate) enum Was {
 
 /// A new value of an element that was there, and what it was, while the edit is in force.
 #[derive(Drop)]
-pub(crate) struct Element {
+pub(crate) struct SetRecord {
     pub(crate) array: Name,
     pub(crate) place: AnyIndex,
     pub(crate) value: i64,
@@ -75,7 +75,7 @@ pub(crate) struct Element {
 
 /// An element that became another one and a number more, and what it was, while the edit is in force.
 #[derive(Drop)]
-pub(crate) struct Copied {
+pub(crate) struct CopyRecord {
     pub(crate) array: Name,
     pub(crate) place: AnyIndex,
     pub(crate) source: Name,
@@ -86,7 +86,7 @@ pub(crate) struct Copied {
 
 /// A new implicit value of an array, and what it was, while the edit is in force.
 #[derive(Drop)]
-pub(crate) struct Implicit {
+pub(crate) struct IrvRecord {
     pub(crate) array: Name,
     pub(crate) value: i64,
     pub(crate) was: Was,
@@ -94,7 +94,7 @@ pub(crate) struct Implicit {
 
 /// An index that came to a domain over which no array is, or left it, and what was there, while the edit is in force.
 #[derive(Drop)]
-pub(crate) struct Member {
+pub(crate) struct MemberRecord {
     pub(crate) domain: Name,
     pub(crate) place: AnyIndex,
     pub(crate) comes: bool,
@@ -103,7 +103,7 @@ pub(crate) struct Member {
 
 /// A number as the element at the one index of a rectangle, and what it was, while the edit is in force.
 #[derive(Drop)]
-pub(crate) struct Filled {
+pub(crate) struct FillRecord {
     pub(crate) array: Name,
     pub(crate) on: AnyRect,
     pub(crate) value: i64,
@@ -112,7 +112,7 @@ pub(crate) struct Filled {
 
 /// Sets of elements of one array as one edit, and what the elements were, while the edit is in force.
 #[derive(Drop)]
-pub(crate) struct Sets {
+pub(crate) struct SetsRecord {
     pub(crate) edit: ArraySets,
     pub(crate) were: Option<CellsWere>,
 }
@@ -120,40 +120,40 @@ pub(crate) struct Sets {
 /// How an entry is kept. Of all forms but the last, what the edit read, and what takes it back, follow from what the cells held
 /// that it changed: one, or of sets as one edit as many as there are.
 #[derive(Drop)]
-pub(crate) enum Form {
+pub(crate) enum RecordForm {
     /// A new value of an element that was there.
-    Set(Element),
+    Set(SetRecord),
     /// A copy of an element that was there to one that was there.
-    Copy(Box<Copied>),
+    Copy(Box<CopyRecord>),
     /// A new implicit value.
-    Irv(Implicit),
+    Irv(IrvRecord),
     /// An index that comes to a domain over which no array is, or leaves it.
-    Member(Member),
+    Member(MemberRecord),
     /// One number as one element.
-    Fill(Box<Filled>),
+    Fill(Box<FillRecord>),
     /// New values of elements that were there, of one array, as one edit.
-    Sets(Box<Sets>),
+    Sets(Box<SetsRecord>),
     /// Any edit.
-    Whole(Box<Entry>),
+    Whole(Box<LoggedEdit>),
 }
 
 /// An entry, kept in the form that takes the least room. Contracts see the entry.
-pub(crate) struct Record {
-    pub(crate) form: Form,
+pub(crate) struct EditRecord {
+    pub(crate) form: RecordForm,
 }
 
 // In a function of its own, so that a crate above need not prove anew how each field is let go.
-impl Drop for Record {
+impl Drop for EditRecord {
     fn drop(self) {
-        let Record { form: _ } = self;
+        let EditRecord { form: _ } = self;
     }
 }
 
-impl Model for Record {
-    ghost use Rattle.wb_log.specs.declared.entry.Entry.{Entry};
+impl Model for EditRecord {
+    ghost use Rattle.wb_log.specs.declared.entry.LoggedEdit.{LoggedEdit};
     ghost use Rattle.wb_log.specs.Records.{shown};
 
-    ghost Value = { Entry };
+    ghost Value = { LoggedEdit };
 
     ghost view = { λ a. shown a.form };
 }
@@ -186,7 +186,7 @@ pub(crate) enum LentFootprint<'a> {
     Member([Pattern; 3], Inverse),
     Fill([Pattern; 2], Inverse),
     Sets(&'a CellsWere),
-    Lent(&'a Kept),
+    Lent(&'a UndoData),
 }
 
 impl<'a> LentFootprint<'a> {
@@ -281,7 +281,7 @@ fn element_pattern(array: &Name, place: &AnyIndex) -> Pattern
     Pattern::One(AnyCell::new(Cell::Element(*array, *place)))
 }
 
-impl Element {
+impl SetRecord {
     /// The edit.
     pub(crate) fn edit(&self) -> Edit
         ensures { result ≡ OneCommand (command.Set self.now.array self.now.place self.now.value) }
@@ -307,7 +307,7 @@ impl Element {
     }
 }
 
-impl Copied {
+impl CopyRecord {
     /// The edit.
     pub(crate) fn edit(&self) -> Edit
         ensures { result ≡ OneCommand (command.Copy self.now.array self.now.place self.now.source self.now.from self.now.more) }
@@ -335,7 +335,7 @@ impl Copied {
     }
 }
 
-impl Implicit {
+impl IrvRecord {
     /// The edit.
     pub(crate) fn edit(&self) -> Edit
         ensures { result ≡ OneCommand (command.Irv self.now.array self.now.value) }
@@ -358,7 +358,7 @@ impl Implicit {
     }
 }
 
-impl Member {
+impl MemberRecord {
     /// The edit.
     pub(crate) fn edit(&self) -> Edit
         ensures { result ≡ member_edit self.now.comes self.now.domain self.now.place }
@@ -389,7 +389,7 @@ impl Member {
     }
 }
 
-impl Filled {
+impl FillRecord {
     /// The edit.
     pub(crate) fn edit(&self) -> Edit
         ensures { result ≡ OneCommand (command.Fill self.now.array (asked_for.Ranges self.now.on) self.now.value) }
@@ -418,20 +418,20 @@ impl Filled {
     }
 }
 
-impl Form {
+impl RecordForm {
     /// Keeps what the one cell held, or none, where the edit is out of force. One of another form is out of force then.
     pub(crate) fn keep(&mut self, was: Option<Before>)
         ensures { shown self.new ≡ record { edit = (shown self.old).edit; kept = kept_of self.old was } }
     {
         let told = Was::of(was);
         match self {
-            Form::Set(element) => element.was = told,
-            Form::Copy(copied) => copied.was = told,
-            Form::Irv(implicit) => implicit.was = told,
-            Form::Member(member) => member.was = told,
-            Form::Fill(filled) => filled.was = told,
-            Form::Sets(sets) => sets.were = None,
-            Form::Whole(entry) => entry.kept = None,
+            RecordForm::Set(element) => element.was = told,
+            RecordForm::Copy(copied) => copied.was = told,
+            RecordForm::Irv(implicit) => implicit.was = told,
+            RecordForm::Member(member) => member.was = told,
+            RecordForm::Fill(filled) => filled.was = told,
+            RecordForm::Sets(sets) => sets.were = None,
+            RecordForm::Whole(entry) => entry.kept = None,
         }
     }
 
@@ -440,13 +440,13 @@ impl Form {
         ensures { shown self.new ≡ record { edit = (shown self.old).edit; kept = held_of self.old were } }
     {
         match self {
-            Form::Sets(sets) => sets.were = Some(were),
-            Form::Set(_)
-            | Form::Copy(_)
-            | Form::Irv(_)
-            | Form::Member(_)
-            | Form::Fill(_)
-            | Form::Whole(_) => {}
+            RecordForm::Sets(sets) => sets.were = Some(were),
+            RecordForm::Set(_)
+            | RecordForm::Copy(_)
+            | RecordForm::Irv(_)
+            | RecordForm::Member(_)
+            | RecordForm::Fill(_)
+            | RecordForm::Whole(_) => {}
         }
     }
 
@@ -455,27 +455,27 @@ impl Form {
         ensures { IfOk result (λ e. e ≡ (shown self.now).edit) }
     {
         match self {
-            Form::Set(element) => Ok(element.edit()),
-            Form::Copy(copied) => Ok(copied.edit()),
-            Form::Irv(implicit) => Ok(implicit.edit()),
-            Form::Member(member) => Ok(member.edit()),
-            Form::Fill(filled) => Ok(filled.edit()),
-            Form::Sets(sets) => sets.edit.edit(alloc),
-            Form::Whole(entry) => entry.edit.copy(alloc),
+            RecordForm::Set(element) => Ok(element.edit()),
+            RecordForm::Copy(copied) => Ok(copied.edit()),
+            RecordForm::Irv(implicit) => Ok(implicit.edit()),
+            RecordForm::Member(member) => Ok(member.edit()),
+            RecordForm::Fill(filled) => Ok(filled.edit()),
+            RecordForm::Sets(sets) => sets.edit.edit(alloc),
+            RecordForm::Whole(entry) => entry.edit.copy(alloc),
         }
     }
 }
 
-impl Record {
+impl EditRecord {
     /// A new value of an element, in force, by what the element was.
-    pub(crate) fn set(array: &Name, place: &AnyIndex, value: &i64, was: &i64) -> Record
+    pub(crate) fn set(array: &Name, place: &AnyIndex, value: &i64, was: &i64) -> EditRecord
         ensures { result ≡ record {
           edit = OneCommand (command.Set array.now place.now value.now);
           kept = Some (record { footprint = element_reads array.now place.now; inverse = cell_before (cell.Element array.now place.now) (before.Number was.now) });
         } }
     {
-        Record {
-            form: Form::Set(Element {
+        EditRecord {
+            form: RecordForm::Set(SetRecord {
                 array: *array,
                 place: *place,
                 value: *value,
@@ -485,11 +485,11 @@ impl Record {
     }
 
     /// An edit out of force; `NoMemory` where none is left for one that isn't a new value of an element or of an array.
-    pub(crate) fn aside(alloc: Global, edit: Edit) -> Result<Record, NoMemory>
+    pub(crate) fn undone(alloc: Global, edit: Edit) -> Result<EditRecord, NoMemory>
         ensures { IfOk result (λ x. x ≡ record { edit = edit; kept = None }) }
     {
-        match form_aside(alloc, edit) {
-            Ok(form) => Ok(Record { form }),
+        match form_undone(alloc, edit) {
+            Ok(form) => Ok(EditRecord { form }),
             Err(why) => Err(why),
         }
     }
@@ -499,16 +499,16 @@ impl Record {
         ensures { IfOk result (λ e. lent_edit e ≡ self.now.edit) }
     {
         match &self.form {
-            Form::Set(element) => Ok(LentEdit::Own(element.edit())),
-            Form::Copy(copied) => Ok(LentEdit::Own(copied.edit())),
-            Form::Irv(implicit) => Ok(LentEdit::Own(implicit.edit())),
-            Form::Member(member) => Ok(LentEdit::Own(member.edit())),
-            Form::Fill(filled) => Ok(LentEdit::Own(filled.edit())),
-            Form::Sets(sets) => match sets.edit.edit(alloc) {
+            RecordForm::Set(element) => Ok(LentEdit::Own(element.edit())),
+            RecordForm::Copy(copied) => Ok(LentEdit::Own(copied.edit())),
+            RecordForm::Irv(implicit) => Ok(LentEdit::Own(implicit.edit())),
+            RecordForm::Member(member) => Ok(LentEdit::Own(member.edit())),
+            RecordForm::Fill(filled) => Ok(LentEdit::Own(filled.edit())),
+            RecordForm::Sets(sets) => match sets.edit.edit(alloc) {
                 Ok(edit) => Ok(LentEdit::Own(edit)),
                 Err(why) => Err(why),
             },
-            Form::Whole(entry) => Ok(LentEdit::Lent(&entry.edit)),
+            RecordForm::Whole(entry) => Ok(LentEdit::Lent(&entry.edit)),
         }
     }
 
@@ -517,9 +517,13 @@ impl Record {
         ensures { option_map (λ n. n.now) result ≡ note_of self.now.edit }
     {
         match &self.form {
-            Form::Set(_) | Form::Copy(_) | Form::Irv(_) | Form::Member(_) | Form::Fill(_) => None,
-            Form::Sets(sets) => sets.edit.note(),
-            Form::Whole(entry) => entry.edit.note(),
+            RecordForm::Set(_)
+            | RecordForm::Copy(_)
+            | RecordForm::Irv(_)
+            | RecordForm::Member(_)
+            | RecordForm::Fill(_) => None,
+            RecordForm::Sets(sets) => sets.edit.note(),
+            RecordForm::Whole(entry) => entry.edit.note(),
         }
     }
 
@@ -528,13 +532,13 @@ impl Record {
         ensures { result ≡ is_some self.now.kept }
     {
         match &self.form {
-            Form::Set(element) => element.was.before().is_some(),
-            Form::Copy(copied) => copied.was.before().is_some(),
-            Form::Irv(implicit) => implicit.was.before().is_some(),
-            Form::Member(member) => member.was.before().is_some(),
-            Form::Fill(filled) => filled.was.before().is_some(),
-            Form::Sets(sets) => sets.were.is_some(),
-            Form::Whole(entry) => entry.kept.is_some(),
+            RecordForm::Set(element) => element.was.before().is_some(),
+            RecordForm::Copy(copied) => copied.was.before().is_some(),
+            RecordForm::Irv(implicit) => implicit.was.before().is_some(),
+            RecordForm::Member(member) => member.was.before().is_some(),
+            RecordForm::Fill(filled) => filled.was.before().is_some(),
+            RecordForm::Sets(sets) => sets.were.is_some(),
+            RecordForm::Whole(entry) => entry.kept.is_some(),
         }
     }
 
@@ -543,46 +547,46 @@ impl Record {
         ensures { option_map lent_footprint result ≡ kept_in self.now }
     {
         match &self.form {
-            Form::Set(element) => match element.was.before() {
+            RecordForm::Set(element) => match element.was.before() {
                 None => None,
                 Some(was) => Some(LentFootprint::Set(
                     element.reads(),
                     set_back(element.cell(), &was),
                 )),
             },
-            Form::Copy(copied) => match copied.was.before() {
+            RecordForm::Copy(copied) => match copied.was.before() {
                 None => None,
                 Some(was) => Some(LentFootprint::Copy(
                     copied.reads(),
                     set_back(copied.cell(), &was),
                 )),
             },
-            Form::Irv(implicit) => match implicit.was.before() {
+            RecordForm::Irv(implicit) => match implicit.was.before() {
                 None => None,
                 Some(was) => Some(LentFootprint::Irv(
                     implicit.reads(),
                     set_back(implicit.cell(), &was),
                 )),
             },
-            Form::Member(member) => match member.was.before() {
+            RecordForm::Member(member) => match member.was.before() {
                 None => None,
                 Some(was) => Some(LentFootprint::Member(
                     member.reads(),
                     set_back(member.cell(), &was),
                 )),
             },
-            Form::Fill(filled) => match filled.was.before() {
+            RecordForm::Fill(filled) => match filled.was.before() {
                 None => None,
                 Some(was) => Some(LentFootprint::Fill(
                     filled.reads(),
                     set_back(filled.cell(), &was),
                 )),
             },
-            Form::Sets(sets) => match &sets.were {
+            RecordForm::Sets(sets) => match &sets.were {
                 None => None,
                 Some(were) => Some(LentFootprint::Sets(were)),
             },
-            Form::Whole(entry) => match &entry.kept {
+            RecordForm::Whole(entry) => match &entry.kept {
                 None => None,
                 Some(kept) => Some(LentFootprint::Lent(kept)),
             },
@@ -599,10 +603,10 @@ impl Record {
 }
 
 // An index that comes to a domain, or leaves it, out of force.
-fn member_aside(domain: &Name, place: &AnyIndex, comes: bool) -> Form
+fn member_undone(domain: &Name, place: &AnyIndex, comes: bool) -> RecordForm
     ensures { shown result ≡ record { edit = member_edit comes domain.now place.now; kept = None } }
 {
-    Form::Member(Member {
+    RecordForm::Member(MemberRecord {
         domain: *domain,
         place: *place,
         comes,
@@ -611,16 +615,21 @@ fn member_aside(domain: &Name, place: &AnyIndex, comes: bool) -> Form
 }
 
 // A fill at the one index of a rectangle, out of force.
-fn fill_aside(alloc: Global, array: &Name, on: &AnyRect, value: i64) -> Result<Form, NoMemory>
+fn fill_undone(
+    alloc: Global,
+    array: &Name,
+    on: &AnyRect,
+    value: i64,
+) -> Result<RecordForm, NoMemory>
     ensures { IfOk result (λ f. shown f ≡ record { edit = OneCommand (command.Fill array.now (asked_for.Ranges on.now) value); kept = None }) }
 {
-    let filled = Filled {
+    let filled = FillRecord {
         array: *array,
         on: *on,
         value,
         was: Was::Untold,
     };
-    Ok(Form::Fill(Box::new(alloc, filled)?))
+    Ok(RecordForm::Fill(Box::new(alloc, filled)?))
 }
 
 // The ranges that are asked for, where they have one index.
@@ -634,13 +643,13 @@ fn ranges_of_one(asked: &AskedRectangle) -> Option<AnyRect>
 }
 
 // A transaction, out of force.
-fn several_aside(alloc: Global, edit: Edit) -> Result<Form, NoMemory>
+fn several_undone(alloc: Global, edit: Edit) -> Result<RecordForm, NoMemory>
     ensures { IfOk result (λ f. shown f ≡ record { edit = edit; kept = None }) }
 {
     match sets_in(alloc, &edit) {
         Err(why) => Err(why),
-        Ok(None) => whole_aside(alloc, edit),
-        Ok(Some(sets)) => sets_aside(alloc, sets),
+        Ok(None) => whole_undone(alloc, edit),
+        Ok(Some(sets)) => sets_undone(alloc, sets),
     }
 }
 
@@ -656,41 +665,41 @@ fn sets_in(alloc: Global, edit: &Edit) -> Result<Option<ArraySets>, NoMemory>
 }
 
 // Sets of elements of one array as one edit, out of force.
-fn sets_aside(alloc: Global, sets: ArraySets) -> Result<Form, NoMemory>
+fn sets_undone(alloc: Global, sets: ArraySets) -> Result<RecordForm, NoMemory>
     ensures { IfOk result (λ f. shown f ≡ record { edit = sets; kept = None }) }
 {
-    let sets = Sets {
+    let sets = SetsRecord {
         edit: sets,
         were: None,
     };
-    Ok(Form::Sets(Box::new(alloc, sets)?))
+    Ok(RecordForm::Sets(Box::new(alloc, sets)?))
 }
 
 // An edit that is kept whole, out of force.
-fn whole_aside(alloc: Global, edit: Edit) -> Result<Form, NoMemory>
+fn whole_undone(alloc: Global, edit: Edit) -> Result<RecordForm, NoMemory>
     ensures { IfOk result (λ f. shown f ≡ record { edit = edit; kept = None }) }
 {
-    Ok(Form::Whole(Box::new(alloc, Entry { edit, kept: None })?))
+    Ok(RecordForm::Whole(Box::new(alloc, LoggedEdit { edit, kept: None })?))
 }
 
 // The form for an edit, which is out of force.
-fn form_aside(alloc: Global, edit: Edit) -> Result<Form, NoMemory>
+fn form_undone(alloc: Global, edit: Edit) -> Result<RecordForm, NoMemory>
     ensures { IfOk result (λ f. shown f ≡ record { edit = edit; kept = None }) }
 {
     match &edit {
-        Edit::Command(Command::Set(array, place, value)) => Ok(Form::Set(Element {
+        Edit::Command(Command::Set(array, place, value)) => Ok(RecordForm::Set(SetRecord {
             array: *array,
             place: *place,
             value: *value,
             was: Was::Untold,
         })),
-        Edit::Command(Command::Irv(array, value)) => Ok(Form::Irv(Implicit {
+        Edit::Command(Command::Irv(array, value)) => Ok(RecordForm::Irv(IrvRecord {
             array: *array,
             value: *value,
             was: Was::Untold,
         })),
         Edit::Command(Command::Copy(array, place, source, from, more)) => {
-            let copied = Copied {
+            let copied = CopyRecord {
                 array: *array,
                 place: *place,
                 source: *source,
@@ -698,14 +707,14 @@ fn form_aside(alloc: Global, edit: Edit) -> Result<Form, NoMemory>
                 more: *more,
                 was: Was::Untold,
             };
-            Ok(Form::Copy(Box::new(alloc, copied)?))
+            Ok(RecordForm::Copy(Box::new(alloc, copied)?))
         }
-        Edit::Command(Command::Add(domain, place)) => Ok(member_aside(domain, place, true)),
-        Edit::Command(Command::Remove(domain, place)) => Ok(member_aside(domain, place, false)),
+        Edit::Command(Command::Add(domain, place)) => Ok(member_undone(domain, place, true)),
+        Edit::Command(Command::Remove(domain, place)) => Ok(member_undone(domain, place, false)),
         Edit::Command(Command::Fill(array, asked, value)) => match ranges_of_one(asked) {
-            Some(on) => fill_aside(alloc, array, &on, *value),
-            None => whole_aside(alloc, edit),
+            Some(on) => fill_undone(alloc, array, &on, *value),
+            None => whole_undone(alloc, edit),
         },
-        _ => several_aside(alloc, edit),
+        _ => several_undone(alloc, edit),
     }
 }

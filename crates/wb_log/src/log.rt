@@ -6,8 +6,8 @@ ghost use Rattle.wb_edit.specs.Edits.{note_of};
 ghost use Rattle.wb_log.specs.Past.{meant};
 ghost use Rattle.wb_log.specs.Records.{lent_edit};
 
-use crate::entry::{LentEdit, Record};
-use crate::index::Index;
+use crate::entry::{EditRecord, LentEdit};
+use crate::index::EditIndex;
 use std::alloc::Global;
 use std::marker::Model;
 use wb_book::Book;
@@ -19,8 +19,8 @@ use wb_range::NoMemory;
 pub struct Log {
     pub(crate) alloc: Global,
     pub(crate) book: Book,
-    pub(crate) entries: Vec<Record>,
-    pub(crate) index: Index,
+    pub(crate) entries: Vec<EditRecord>,
+    pub(crate) index: EditIndex,
 }
 
 // In a function of its own, so that a crate above need not prove anew how each field is let go.
@@ -58,7 +58,7 @@ impl Log {
             alloc,
             book: Book::new(alloc),
             entries: Vec::new(alloc),
-            index: Index::new(alloc),
+            index: EditIndex::new(alloc),
         }
     }
 

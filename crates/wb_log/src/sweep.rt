@@ -7,7 +7,7 @@ ghost use Rattle.wb_footprints.specs.Swept.{AreSwept};
 ghost use Rattle.wb_log.specs.Kept.{by_number};
 ghost use Rattle.wb_log.specs.Needed.{AreFromFootprints, Joined};
 
-use crate::entry::Record;
+use crate::entry::EditRecord;
 use std::alloc::Global;
 use wb_footprints::{FootIndex, Numbers, SweptCells};
 use wb_range::NoMemory;
@@ -15,7 +15,7 @@ use wb_range::NoMemory;
 /// The edits wait that need the one of a number.
 fn wait_for_those(
     index: &FootIndex,
-    entries: &[Record],
+    entries: &[EditRecord],
     number: u64,
     waiting: &mut Numbers,
     swept: &mut SweptCells,
@@ -37,7 +37,7 @@ fn wait_for_those(
 pub(crate) fn needing(
     alloc: Global,
     index: &FootIndex,
-    entries: &[Record],
+    entries: &[EditRecord],
     number: u64,
 ) -> Result<Vec<u64>, NoMemory>
     requires positive { 0 < number }

@@ -4,7 +4,7 @@ ghost use Rattle.wb_edit.specs.Plans.{Attempts};
 
 use crate::attempt_err::{AttemptErr, or_refused};
 use crate::commands::resized::plan_resized;
-use crate::footprint::ReadFootprint;
+use crate::footprint::FootprintBuilder;
 use crate::looks::resizing::has_members;
 use crate::looks::{judgements, one_cell};
 use std::alloc::Global;
@@ -15,7 +15,7 @@ use wb_layers::Layered;
 pub(crate) fn plan_add(
     alloc: Global,
     book: &Layered<'_>,
-    footprint: &mut ReadFootprint,
+    footprint: &mut FootprintBuilder,
     domain: Name,
     index: AnyIndex,
 ) -> Result<Delta, AttemptErr>
@@ -31,7 +31,7 @@ pub(crate) fn plan_add(
 fn add_unless(
     alloc: Global,
     book: &Layered<'_>,
-    footprint: &mut ReadFootprint,
+    footprint: &mut FootprintBuilder,
     there: Option<Value>,
     domain: Name,
     kind: &AnyDomain,

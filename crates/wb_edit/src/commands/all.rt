@@ -13,7 +13,7 @@ ghost use Rattle.wb_edit.specs.Plans.{Attempts, Makes, or_refused};
 
 use crate::attempt_err::{AttemptErr, or_refused};
 use crate::commands::seen::put_elements;
-use crate::footprint::ReadFootprint;
+use crate::footprint::FootprintBuilder;
 use crate::looks::{elements, numbers, one_cell};
 use crate::operation::Operation;
 use std::alloc::Global;
@@ -24,7 +24,7 @@ use wb_layers::Layered;
 pub(crate) fn plan_all(
     alloc: Global,
     book: &Layered<'_>,
-    footprint: &mut ReadFootprint,
+    footprint: &mut FootprintBuilder,
     array: Name,
     how: &Operation,
     other: Name,
@@ -44,7 +44,7 @@ pub(crate) fn plan_all(
 fn plan_all_results(
     alloc: Global,
     book: &Layered<'_>,
-    footprint: &mut ReadFootprint,
+    footprint: &mut FootprintBuilder,
     array: Name,
     how: &Operation,
     other: Name,

@@ -5,7 +5,7 @@ ghost use Rattle.wb_edit.specs.Plans.{Attempts, Makes, indices_in};
 
 use crate::attempt_err::AttemptErr;
 use crate::commands::writes::{put, put_found};
-use crate::footprint::ReadFootprint;
+use crate::footprint::FootprintBuilder;
 use crate::looks::indices::{Indices, domain_indices};
 use crate::looks::one_cell;
 use std::alloc::Global;
@@ -16,7 +16,7 @@ use wb_layers::Layered;
 pub(crate) fn plan_array(
     alloc: Global,
     book: &Layered<'_>,
-    footprint: &mut ReadFootprint,
+    footprint: &mut FootprintBuilder,
     name: Name,
     domain: Name,
 ) -> Result<Delta, AttemptErr>

@@ -8,7 +8,7 @@ ghost use Rattle.wb_edit.specs.Writes.{set_to};
 
 use crate::attempt_err::AttemptErr;
 use crate::commands::writes::put;
-use crate::footprint::ReadFootprint;
+use crate::footprint::FootprintBuilder;
 use crate::looks::one_cell;
 use std::alloc::Global;
 use wb_cells::{AnyDomain, Cell, Delta, DomainKind, KeyType, Name, Value};
@@ -18,7 +18,7 @@ use wb_layers::Layered;
 pub(crate) fn plan_assoc(
     alloc: Global,
     book: &Layered<'_>,
-    footprint: &mut ReadFootprint,
+    footprint: &mut FootprintBuilder,
     name: Name,
     key: &KeyType,
 ) -> Result<Delta, AttemptErr>

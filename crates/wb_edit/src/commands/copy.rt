@@ -4,7 +4,7 @@ ghost use Rattle.wb_edit.specs.Plans.{Attempts};
 
 use crate::attempt_err::{AttemptErr, or_refused};
 use crate::commands::set::element_change;
-use crate::footprint::ReadFootprint;
+use crate::footprint::FootprintBuilder;
 use crate::looks::implicit::{ArrayRef, element_or_implicit};
 use crate::looks::{judgements, numbers, one_cell};
 use std::alloc::Global;
@@ -15,7 +15,7 @@ use wb_layers::Layered;
 pub(crate) fn plan_copy(
     alloc: Global,
     book: &Layered<'_>,
-    footprint: &mut ReadFootprint,
+    footprint: &mut FootprintBuilder,
     target: (Name, AnyIndex),
     source: (Name, AnyIndex),
     more: i64,

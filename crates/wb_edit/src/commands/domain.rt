@@ -5,7 +5,7 @@ ghost use Rattle.wb_edit.specs.Plans.{Attempts, Makes};
 use crate::asked_rectangle::AskedRectangle;
 use crate::attempt_err::AttemptErr;
 use crate::commands::writes::{put, put_all};
-use crate::footprint::ReadFootprint;
+use crate::footprint::FootprintBuilder;
 use crate::looks::{layouts, one_cell, rectangles};
 use std::alloc::Global;
 use wb_cells::{AnyDomain, AnyLayout, AnyRect, Cell, Delta, DomainKind, IndexedRow, Name, Value};
@@ -15,7 +15,7 @@ use wb_layers::Layered;
 pub(crate) fn plan_domain(
     alloc: Global,
     book: &Layered<'_>,
-    footprint: &mut ReadFootprint,
+    footprint: &mut FootprintBuilder,
     name: Name,
     asked: &AskedRectangle,
     mapping: &AnyLayout,

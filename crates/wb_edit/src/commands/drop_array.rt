@@ -5,7 +5,7 @@ ghost use Rattle.wb_edit.specs.Plans.{Attempts, Makes, indices_in};
 
 use crate::attempt_err::AttemptErr;
 use crate::commands::writes::{become_found, change};
-use crate::footprint::ReadFootprint;
+use crate::footprint::FootprintBuilder;
 use crate::looks::indices::Indices;
 use crate::looks::{elements, one_cell};
 use std::alloc::Global;
@@ -16,7 +16,7 @@ use wb_layers::Layered;
 pub(crate) fn plan_drop_array(
     alloc: Global,
     book: &Layered<'_>,
-    footprint: &mut ReadFootprint,
+    footprint: &mut FootprintBuilder,
     array: Name,
 ) -> Result<Delta, AttemptErr>
     ensures { Attempts (drop_array array) book.now.cells footprint.old result footprint.new }

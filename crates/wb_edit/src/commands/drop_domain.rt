@@ -7,7 +7,7 @@ ghost use Rattle.wb_edit.specs.Writes.{clear_all};
 
 use crate::attempt_err::AttemptErr;
 use crate::commands::writes::{become_found, change, membership};
-use crate::footprint::ReadFootprint;
+use crate::footprint::FootprintBuilder;
 use crate::looks::indices::{Indices, domain_indices};
 use crate::looks::one_cell;
 use crate::looks::users::unused;
@@ -19,7 +19,7 @@ use wb_layers::Layered;
 pub(crate) fn plan_drop_domain(
     alloc: Global,
     book: &Layered<'_>,
-    footprint: &mut ReadFootprint,
+    footprint: &mut FootprintBuilder,
     domain: Name,
 ) -> Result<Delta, AttemptErr>
     ensures { Attempts (drop_domain domain) book.now.cells footprint.old result footprint.new }

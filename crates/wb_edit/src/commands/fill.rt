@@ -9,7 +9,7 @@ ghost use Rattle.wb_edit.specs.Writes.{put_all};
 use crate::asked_rectangle::AskedRectangle;
 use crate::attempt_err::AttemptErr;
 use crate::commands::writes::put_all;
-use crate::footprint::ReadFootprint;
+use crate::footprint::FootprintBuilder;
 use crate::looks::{one_cell, rectangles};
 use std::alloc::Global;
 use wb_cells::{AnyRect, Delta, IndexedRow, Name, Value};
@@ -19,7 +19,7 @@ use wb_layers::Layered;
 pub(crate) fn plan_fill(
     alloc: Global,
     book: &Layered<'_>,
-    footprint: &mut ReadFootprint,
+    footprint: &mut FootprintBuilder,
     array: Name,
     asked: &AskedRectangle,
     value: i64,

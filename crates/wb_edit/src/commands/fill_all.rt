@@ -8,7 +8,7 @@ ghost use Rattle.wb_edit.specs.Writes.{put_all};
 
 use crate::attempt_err::AttemptErr;
 use crate::commands::writes::put_found;
-use crate::footprint::ReadFootprint;
+use crate::footprint::FootprintBuilder;
 use crate::looks::indices::Indices;
 use crate::looks::{elements, one_cell};
 use std::alloc::Global;
@@ -19,7 +19,7 @@ use wb_layers::Layered;
 pub(crate) fn plan_fill_all(
     alloc: Global,
     book: &Layered<'_>,
-    footprint: &mut ReadFootprint,
+    footprint: &mut FootprintBuilder,
     array: Name,
     value: i64,
 ) -> Result<Delta, AttemptErr>

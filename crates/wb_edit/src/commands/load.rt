@@ -6,7 +6,7 @@ ghost use Rattle.wb_text.specs.Texts.Books.{cells_in};
 
 use crate::attempt_err::AttemptErr;
 use crate::commands::writes::put;
-use crate::footprint::ReadFootprint;
+use crate::footprint::FootprintBuilder;
 use crate::looks::objects;
 use std::alloc::Global;
 use wb_cells::{Delta, StoredCells};
@@ -17,7 +17,7 @@ use wb_text::BookText;
 pub(crate) fn plan_load(
     alloc: Global,
     book: &Layered<'_>,
-    footprint: &mut ReadFootprint,
+    footprint: &mut FootprintBuilder,
     text: &BookText,
 ) -> Result<Delta, AttemptErr>
     ensures { Attempts (load text.now) book.now.cells footprint.old result footprint.new }

@@ -7,7 +7,7 @@ ghost use Rattle.wb_edit.specs.Plans.{Attempts, Makes};
 use crate::asked_numbers::AskedNumbers;
 use crate::attempt_err::AttemptErr;
 use crate::commands::all::rectangle_changes;
-use crate::footprint::ReadFootprint;
+use crate::footprint::FootprintBuilder;
 use crate::looks::{one_cell, rectangles};
 use crate::numbered_rectangle::NumberedRectangle;
 use std::alloc::Global;
@@ -18,7 +18,7 @@ use wb_layers::Layered;
 pub(crate) fn plan_put(
     alloc: Global,
     book: &Layered<'_>,
-    footprint: &mut ReadFootprint,
+    footprint: &mut FootprintBuilder,
     array: Name,
     asked: &AskedNumbers,
 ) -> Result<Delta, AttemptErr>
@@ -37,7 +37,7 @@ pub(crate) fn plan_put(
 fn plan_numbers(
     alloc: Global,
     book: &Layered<'_>,
-    footprint: &mut ReadFootprint,
+    footprint: &mut FootprintBuilder,
     array: Name,
     kind: Kind,
     numbered: &NumberedRectangle,

@@ -7,7 +7,7 @@ ghost use Rattle.wb_edit.specs.Writes.{set_to};
 
 use crate::attempt_err::{AttemptErr, or_refused};
 use crate::commands::writes::put;
-use crate::footprint::ReadFootprint;
+use crate::footprint::FootprintBuilder;
 use crate::looks::{kinds, layouts, one_cell};
 use std::alloc::Global;
 use wb_cells::{AnyLayout, Cell, Delta, Name, Value};
@@ -17,7 +17,7 @@ use wb_layers::Layered;
 pub(crate) fn plan_remap(
     alloc: Global,
     book: &Layered<'_>,
-    footprint: &mut ReadFootprint,
+    footprint: &mut FootprintBuilder,
     domain: Name,
     mapping: &AnyLayout,
 ) -> Result<Delta, AttemptErr>

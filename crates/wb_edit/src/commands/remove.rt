@@ -4,7 +4,7 @@ ghost use Rattle.wb_edit.specs.Plans.{Attempts};
 
 use crate::attempt_err::{AttemptErr, or_refused};
 use crate::commands::resized::resize_changes;
-use crate::footprint::ReadFootprint;
+use crate::footprint::FootprintBuilder;
 use crate::looks::resizing::{has_members, zeros};
 use crate::looks::users::{arrays, uses};
 use crate::looks::{judgements, one_cell};
@@ -16,7 +16,7 @@ use wb_layers::Layered;
 pub(crate) fn plan_remove(
     alloc: Global,
     book: &Layered<'_>,
-    footprint: &mut ReadFootprint,
+    footprint: &mut FootprintBuilder,
     domain: Name,
     index: AnyIndex,
 ) -> Result<Delta, AttemptErr>
@@ -32,7 +32,7 @@ pub(crate) fn plan_remove(
 fn remove_if(
     alloc: Global,
     book: &Layered<'_>,
-    footprint: &mut ReadFootprint,
+    footprint: &mut FootprintBuilder,
     there: Option<Value>,
     domain: Name,
     kind: &AnyDomain,
@@ -50,7 +50,7 @@ fn remove_if(
 fn plan_left(
     alloc: Global,
     book: &Layered<'_>,
-    footprint: &mut ReadFootprint,
+    footprint: &mut FootprintBuilder,
     domain: Name,
     kind: &AnyDomain,
     index: AnyIndex,

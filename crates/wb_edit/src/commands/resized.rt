@@ -13,7 +13,7 @@ ghost use Rattle.wb_reshape.specs.Resized.{resized_cells};
 
 use crate::attempt_err::AttemptErr;
 use crate::commands::writes::{NamedDomain, resize};
-use crate::footprint::ReadFootprint;
+use crate::footprint::FootprintBuilder;
 use crate::looks::resizing::{all_in_parent, fills};
 use std::alloc::Global;
 use wb_cells::{AnyDomain, AnyIndex, Delta, Name};
@@ -23,7 +23,7 @@ use wb_layers::Layered;
 pub(crate) fn plan_resized(
     alloc: Global,
     book: &Layered<'_>,
-    footprint: &mut ReadFootprint,
+    footprint: &mut FootprintBuilder,
     domain: Name,
     kind: &AnyDomain,
     new: &[AnyIndex],
@@ -43,7 +43,7 @@ pub(crate) fn plan_resized(
 pub(crate) fn plan_exchanged(
     alloc: Global,
     book: &Layered<'_>,
-    footprint: &mut ReadFootprint,
+    footprint: &mut FootprintBuilder,
     domain: Name,
     kind: &AnyDomain,
     leaving: &[AnyIndex],

@@ -9,7 +9,7 @@ ghost use Rattle.wb_edit.specs.Writes.{set_to};
 
 use crate::attempt_err::{AttemptErr, or_refused};
 use crate::commands::writes::put;
-use crate::footprint::ReadFootprint;
+use crate::footprint::FootprintBuilder;
 use crate::looks::{kinds, one_cell};
 use std::alloc::Global;
 use wb_cells::{AnyDomain, Binding, Cell, Delta, DomainKind, Name, Value};
@@ -19,7 +19,7 @@ use wb_layers::Layered;
 pub(crate) fn plan_sparse(
     alloc: Global,
     book: &Layered<'_>,
-    footprint: &mut ReadFootprint,
+    footprint: &mut FootprintBuilder,
     name: Name,
     parent: Name,
 ) -> Result<Delta, AttemptErr>

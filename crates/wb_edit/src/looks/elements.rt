@@ -9,7 +9,7 @@ ghost use Rattle.wb_edit.specs.Elements.{element_indices, same_domain};
 ghost use Rattle.wb_edit.specs.Plans.{Looks, indices_in, shown_indices};
 
 use crate::attempt_err::AttemptErr;
-use crate::footprint::ReadFootprint;
+use crate::footprint::FootprintBuilder;
 use crate::looks::indices::Indices;
 use std::alloc::Global;
 use wb_cells::{AnyIndex, Name, Pattern, WhyRefused};
@@ -17,7 +17,7 @@ use wb_layers::Layered;
 use wb_range::NoMemory;
 
 /// All elements of an array are looked at, whether or not they are listed.
-pub(crate) fn look_at_elements(footprint: &mut ReadFootprint, array: Name) -> Result<(), AttemptErr>
+pub(crate) fn look_at_elements(footprint: &mut FootprintBuilder, array: Name) -> Result<(), AttemptErr>
     ensures read { OnOk result (footprint.new ≡ footprint.old ++ Elements array ∷ []) }
     ensures only { IfErr result (λ e. e ≡ AttemptErr.NoMemory) }
 {
@@ -59,7 +59,7 @@ fn indices_there(alloc: Global, book: &Layered<'_>, array: Name) -> Result<Indic
 pub(crate) fn element_indices(
     alloc: Global,
     book: &Layered<'_>,
-    footprint: &mut ReadFootprint,
+    footprint: &mut FootprintBuilder,
     array: Name,
 ) -> Result<Indices, AttemptErr>
     ensures looks { Looks (element_indices array) book.now.cells footprint.old (shown_indices result) footprint.new }

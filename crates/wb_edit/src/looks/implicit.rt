@@ -6,7 +6,7 @@ ghost use Rattle.wb_edit.specs.Implicit.{element_or_implicit};
 ghost use Rattle.wb_edit.specs.Plans.{Looks};
 
 use crate::attempt_err::{AttemptErr, or_refused};
-use crate::footprint::ReadFootprint;
+use crate::footprint::FootprintBuilder;
 use crate::looks::judgements::is_there;
 use crate::looks::numbers::element_or_refusal;
 use crate::looks::one_cell::read;
@@ -57,7 +57,7 @@ pub(crate) struct ArrayRef {
 /// The parent of a sparse domain.
 pub(crate) fn parent_of(
     book: &Layered<'_>,
-    footprint: &mut ReadFootprint,
+    footprint: &mut FootprintBuilder,
     domain: Name,
 ) -> Result<Name, AttemptErr>
     ensures { Looks (parent_of domain) book.now.cells footprint.old result footprint.new }
@@ -69,7 +69,7 @@ pub(crate) fn parent_of(
 /// That an index is in a rectangular domain.
 fn is_in_domain(
     book: &Layered<'_>,
-    footprint: &mut ReadFootprint,
+    footprint: &mut FootprintBuilder,
     domain: Name,
     index: AnyIndex,
 ) -> Result<(), AttemptErr>
@@ -82,7 +82,7 @@ fn is_in_domain(
 /// The implicit value of an array.
 fn implicit_value(
     book: &Layered<'_>,
-    footprint: &mut ReadFootprint,
+    footprint: &mut FootprintBuilder,
     array: Name,
 ) -> Result<i64, AttemptErr>
     ensures { Looks (implicit_value array) book.now.cells footprint.old result footprint.new }
@@ -93,7 +93,7 @@ fn implicit_value(
 
 fn implicit_inside(
     book: &Layered<'_>,
-    footprint: &mut ReadFootprint,
+    footprint: &mut FootprintBuilder,
     array: Name,
     parent: Name,
     index: AnyIndex,
@@ -106,7 +106,7 @@ fn implicit_inside(
 
 fn implicit_at(
     book: &Layered<'_>,
-    footprint: &mut ReadFootprint,
+    footprint: &mut FootprintBuilder,
     array: Name,
     domain: Name,
     index: AnyIndex,
@@ -120,7 +120,7 @@ fn implicit_at(
 /// The implicit value at an index of the parent.
 fn implicit(
     book: &Layered<'_>,
-    footprint: &mut ReadFootprint,
+    footprint: &mut FootprintBuilder,
     source: &ArrayRef,
     index: AnyIndex,
 ) -> Result<i64, AttemptErr>
@@ -132,7 +132,7 @@ fn implicit(
 
 fn or_implicit(
     book: &Layered<'_>,
-    footprint: &mut ReadFootprint,
+    footprint: &mut FootprintBuilder,
     source: &ArrayRef,
     index: AnyIndex,
     element: Option<Value>,
@@ -148,7 +148,7 @@ fn or_implicit(
 /// The element at an index, or the implicit value.
 pub(crate) fn element_or_implicit(
     book: &Layered<'_>,
-    footprint: &mut ReadFootprint,
+    footprint: &mut FootprintBuilder,
     source: &ArrayRef,
     index: AnyIndex,
 ) -> Result<i64, AttemptErr>

@@ -10,7 +10,7 @@ ghost use Rattle.wb_edit.specs.Looks.{members, points, indices_of, domain_indice
 ghost use Rattle.wb_edit.specs.Plans.{Looks, found_members, indices_in, shown_indices};
 
 use crate::attempt_err::AttemptErr;
-use crate::footprint::ReadFootprint;
+use crate::footprint::FootprintBuilder;
 use crate::looks::judgements;
 use crate::looks::one_cell::read;
 use std::alloc::Global;
@@ -28,7 +28,7 @@ pub(crate) enum Indices {
 }
 
 /// All indices of a sparse or associative domain are looked at, whether or not they are listed.
-pub(crate) fn look_at_members(footprint: &mut ReadFootprint, domain: Name) -> Result<(), AttemptErr>
+pub(crate) fn look_at_members(footprint: &mut FootprintBuilder, domain: Name) -> Result<(), AttemptErr>
     ensures read { OnOk result (footprint.new ≡ footprint.old ++ Members domain ∷ []) }
     ensures only { IfErr result (λ e. e ≡ AttemptErr.NoMemory) }
 {
@@ -58,7 +58,7 @@ pub(crate) fn listed_members(
 pub(crate) fn members(
     alloc: Global,
     book: &Layered<'_>,
-    footprint: &mut ReadFootprint,
+    footprint: &mut FootprintBuilder,
     domain: Name,
 ) -> Result<Vec<AnyIndex>, AttemptErr>
     ensures looks { Looks (members domain) book.now.cells footprint.old (found_members result) footprint.new }
@@ -76,7 +76,7 @@ pub(crate) fn members(
 pub(crate) fn points(
     alloc: Global,
     book: &Layered<'_>,
-    footprint: &mut ReadFootprint,
+    footprint: &mut FootprintBuilder,
     domain: Name,
 ) -> Result<Indices, AttemptErr>
     ensures looks { Looks (points domain) book.now.cells footprint.old (shown_indices result) footprint.new }
@@ -116,7 +116,7 @@ fn listed(found: Result<Vec<AnyIndex>, AttemptErr>) -> Result<Indices, AttemptEr
 pub(crate) fn domain_indices(
     alloc: Global,
     book: &Layered<'_>,
-    footprint: &mut ReadFootprint,
+    footprint: &mut FootprintBuilder,
     domain: Name,
     kind: &AnyDomain,
 ) -> Result<Indices, AttemptErr>

@@ -9,7 +9,7 @@ ghost use Rattle.wb_edit.specs.Plans.{Looks};
 ghost use Rattle.wb_edit.specs.declared.attempt_err.AttemptErr.TheVariants.{NoMemory};
 
 use crate::attempt_err::{AttemptErr, or_refused};
-use crate::footprint::ReadFootprint;
+use crate::footprint::FootprintBuilder;
 use wb_cells::{Name, Pattern, WhyRefused};
 use wb_layers::Layered;
 
@@ -35,7 +35,7 @@ fn shown_first(book: &Layered<'_>) -> Result<Option<Name>, AttemptErr>
 }
 
 /// There is no object. However many there are, it takes no memory for them where no change of an object is laid over them.
-pub(crate) fn no_object(book: &Layered<'_>, footprint: &mut ReadFootprint) -> Result<(), AttemptErr>
+pub(crate) fn no_object(book: &Layered<'_>, footprint: &mut FootprintBuilder) -> Result<(), AttemptErr>
     ensures { Looks no_object book.now.cells footprint.old result footprint.new }
 {
     match footprint.keep(Pattern::Objects) {

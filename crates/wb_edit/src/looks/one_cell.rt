@@ -7,7 +7,7 @@ ghost use Rattle.wb_edit.specs.Looks.{free_name, domain_named, array_named, elem
 ghost use Rattle.wb_edit.specs.Plans.{Looks};
 
 use crate::attempt_err::{AttemptErr, or_refused};
-use crate::footprint::ReadFootprint;
+use crate::footprint::FootprintBuilder;
 use crate::looks::judgements;
 use wb_cells::{AnyCell, AnyDomain, AnyIndex, Cell, Kind, Name, Pattern, Value};
 use wb_layers::Layered;
@@ -15,7 +15,7 @@ use wb_layers::Layered;
 /// What a cell holds.
 pub(crate) fn read(
     book: &Layered<'_>,
-    footprint: &mut ReadFootprint,
+    footprint: &mut FootprintBuilder,
     cell: &Cell,
 ) -> Result<Option<Value>, AttemptErr>
     ensures { Looks (read cell.now) book.now.cells footprint.old result footprint.new }
@@ -29,7 +29,7 @@ pub(crate) fn read(
 /// Nothing has the name.
 pub(crate) fn free_name(
     book: &Layered<'_>,
-    footprint: &mut ReadFootprint,
+    footprint: &mut FootprintBuilder,
     name: Name,
 ) -> Result<(), AttemptErr>
     ensures { Looks (free_name name) book.now.cells footprint.old result footprint.new }
@@ -41,7 +41,7 @@ pub(crate) fn free_name(
 /// The name is there, and names a domain: what it is.
 pub(crate) fn domain_named(
     book: &Layered<'_>,
-    footprint: &mut ReadFootprint,
+    footprint: &mut FootprintBuilder,
     domain: Name,
 ) -> Result<AnyDomain, AttemptErr>
     ensures { Looks (domain_named domain) book.now.cells footprint.old result footprint.new }
@@ -53,7 +53,7 @@ pub(crate) fn domain_named(
 /// The name is there, and names an array: its domain, and that domain's kind.
 pub(crate) fn array_named(
     book: &Layered<'_>,
-    footprint: &mut ReadFootprint,
+    footprint: &mut FootprintBuilder,
     array: Name,
 ) -> Result<(Name, Kind), AttemptErr>
     ensures { Looks (array_named array) book.now.cells footprint.old result footprint.new }
@@ -65,7 +65,7 @@ pub(crate) fn array_named(
 /// The element is there.
 pub(crate) fn element(
     book: &Layered<'_>,
-    footprint: &mut ReadFootprint,
+    footprint: &mut FootprintBuilder,
     array: Name,
     index: AnyIndex,
 ) -> Result<(), AttemptErr>

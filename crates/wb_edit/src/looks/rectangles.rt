@@ -15,7 +15,7 @@ ghost use Rattle.wb_edit.specs.declared.attempt_err.AttemptErr.TheVariants.{NoMe
 
 use crate::asked_rectangle::AskedRectangle;
 use crate::attempt_err::{AttemptErr, or_refused};
-use crate::footprint::ReadFootprint;
+use crate::footprint::FootprintBuilder;
 use wb_cells::{AnyCell, AnyIndex, AnyRect, Cell, IndexedRow, Kind, Name, Pattern, WhyRefused};
 use wb_layers::Layered;
 
@@ -78,7 +78,7 @@ pub(crate) fn there_if(all: bool) -> Result<(), WhyRefused>
 /// Whether a cell is there; it is looked at.
 pub(crate) fn is_present(
     book: &Layered<'_>,
-    footprint: &mut ReadFootprint,
+    footprint: &mut FootprintBuilder,
     cell: &Cell,
 ) -> Result<bool, AttemptErr>
     ensures read { OnOk result (footprint.new ≡ footprint.old ++ one_of cell.now ∷ []) }
@@ -138,7 +138,7 @@ fn all_present(book: &Layered<'_>, array: Name, on: &AnyRect) -> bool
 // Whether an array has an element at each index of a rectangle; the footprint keeps that they are looked at.
 fn are_present(
     book: &Layered<'_>,
-    footprint: &mut ReadFootprint,
+    footprint: &mut FootprintBuilder,
     array: Name,
     on: &AnyRect,
 ) -> Result<bool, AttemptErr>
@@ -162,7 +162,7 @@ pub(crate) fn both_answers(all: bool, here: bool) -> bool
 /// An array's elements at the indices of a rectangle.
 pub(crate) fn all_elements(
     book: &Layered<'_>,
-    footprint: &mut ReadFootprint,
+    footprint: &mut FootprintBuilder,
     array: Name,
     on: &AnyRect,
 ) -> Result<(), AttemptErr>

@@ -10,7 +10,7 @@ ghost use Rattle.wb_edit.specs.Reshaping.{shape_in, absent_if, shape, member_cel
 ghost use Rattle.wb_edit.specs.declared.attempt_err.AttemptErr.TheVariants.{NoMemory};
 
 use crate::attempt_err::{AttemptErr, or_refused};
-use crate::footprint::ReadFootprint;
+use crate::footprint::FootprintBuilder;
 use crate::looks::one_cell::read;
 use crate::looks::rectangles::is_present;
 use wb_cells::{AnyIndex, AnyRect, Cell, Name, Value, WhyRefused};
@@ -37,7 +37,7 @@ pub(crate) fn shape_in(shape: Option<Value>) -> Result<AnyRect, WhyRefused>
 /// The ranges of a rectangular domain.
 pub(crate) fn shape(
     book: &Layered<'_>,
-    footprint: &mut ReadFootprint,
+    footprint: &mut FootprintBuilder,
     domain: Name,
 ) -> Result<AnyRect, AttemptErr>
     ensures { Looks (shape domain) book.now.cells footprint.old result footprint.new }
@@ -63,7 +63,7 @@ fn either_answer(any: bool, here: bool) -> bool
 // Whether a domain has one of some indices; each of them is looked at.
 fn has_some(
     book: &Layered<'_>,
-    footprint: &mut ReadFootprint,
+    footprint: &mut FootprintBuilder,
     domain: Name,
     listed: &[AnyIndex],
 ) -> Result<bool, AttemptErr>
@@ -82,7 +82,7 @@ fn has_some(
 // Whether one of some domains has one of some indices; each index is looked at in each domain.
 fn some_have(
     book: &Layered<'_>,
-    footprint: &mut ReadFootprint,
+    footprint: &mut FootprintBuilder,
     domains: &[Name],
     listed: &[AnyIndex],
 ) -> Result<bool, AttemptErr>
@@ -101,7 +101,7 @@ fn some_have(
 /// None of some indices is in one of the domains.
 pub(crate) fn none_there(
     book: &Layered<'_>,
-    footprint: &mut ReadFootprint,
+    footprint: &mut FootprintBuilder,
     domains: &[Name],
     listed: &[AnyIndex],
 ) -> Result<(), AttemptErr>

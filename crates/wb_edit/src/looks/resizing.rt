@@ -14,7 +14,7 @@ ghost use Rattle.wb_edit.specs.Resizing.{has_members, inside_if, number_or_zero,
 ghost use Rattle.wb_edit.specs.declared.attempt_err.AttemptErr.TheVariants.{NoMemory};
 
 use crate::attempt_err::{AttemptErr, or_refused};
-use crate::footprint::ReadFootprint;
+use crate::footprint::FootprintBuilder;
 use crate::looks::rectangles::{both_answers, is_present};
 use crate::looks::users::{arrays, uses};
 use std::alloc::{AllocError, Global};
@@ -48,7 +48,7 @@ pub(crate) fn inside_if(all: bool) -> Result<(), WhyRefused>
 /// Whether the cells of some indices are all there; each of them is looked at.
 pub(crate) fn are_there(
     book: &Layered<'_>,
-    footprint: &mut ReadFootprint,
+    footprint: &mut FootprintBuilder,
     row: &IndexedRow,
     listed: &[AnyIndex],
 ) -> Result<bool, AttemptErr>
@@ -67,7 +67,7 @@ pub(crate) fn are_there(
 /// All indices are in a rectangular domain.
 fn all_in_domain(
     book: &Layered<'_>,
-    footprint: &mut ReadFootprint,
+    footprint: &mut FootprintBuilder,
     parent: Name,
     listed: &[AnyIndex],
 ) -> Result<(), AttemptErr>
@@ -80,7 +80,7 @@ fn all_in_domain(
 /// The domain may have the indices: if it is sparse, they are in its parent.
 pub(crate) fn all_in_parent(
     book: &Layered<'_>,
-    footprint: &mut ReadFootprint,
+    footprint: &mut FootprintBuilder,
     kind: &AnyDomain,
     listed: &[AnyIndex],
 ) -> Result<(), AttemptErr>
@@ -114,7 +114,7 @@ fn number_or_zero(value: Option<Value>) -> i64
 // An array with its implicit value, which is looked at.
 fn with_implicit(
     book: &Layered<'_>,
-    footprint: &mut ReadFootprint,
+    footprint: &mut FootprintBuilder,
     array: Name,
 ) -> Result<(Name, i64), AttemptErr>
     ensures read { OnOk result (footprint.new ≡ footprint.old ++ one_of (Implicit array) ∷ []) }
@@ -132,7 +132,7 @@ fn with_implicit(
 fn with_implicits(
     alloc: Global,
     book: &Layered<'_>,
-    footprint: &mut ReadFootprint,
+    footprint: &mut FootprintBuilder,
     arrays: &[Name],
 ) -> Result<Vec<(Name, i64)>, AttemptErr>
     ensures read { OnOk result (footprint.new ≡ footprint.old ++ map one_of (map Implicit arrays.now)) }
@@ -169,7 +169,7 @@ pub(crate) fn zeros(alloc: Global, arrays: &[Name]) -> Result<Vec<(Name, i64)>, 
 fn defaults(
     alloc: Global,
     book: &Layered<'_>,
-    footprint: &mut ReadFootprint,
+    footprint: &mut FootprintBuilder,
     kind: &AnyDomain,
     arrays: &[Name],
 ) -> Result<Vec<(Name, i64)>, AttemptErr>
@@ -187,7 +187,7 @@ fn defaults(
 pub(crate) fn fills(
     alloc: Global,
     book: &Layered<'_>,
-    footprint: &mut ReadFootprint,
+    footprint: &mut FootprintBuilder,
     domain: Name,
     kind: &AnyDomain,
 ) -> Result<Vec<(Name, i64)>, AttemptErr>

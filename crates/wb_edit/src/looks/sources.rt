@@ -12,7 +12,7 @@ ghost use Rattle.wb_edit.specs.Sources.{same_rank, slice_of, displacement_of, is
 ghost use Rattle.wb_edit.specs.Sources.{ranges_given, names_set, gives_set, indices_given};
 
 use crate::attempt_err::{AttemptErr, or_refused};
-use crate::footprint::ReadFootprint;
+use crate::footprint::FootprintBuilder;
 use crate::looks::indices::members;
 use crate::looks::one_cell::domain_named;
 use crate::looks::rectangles::{both_answers, of_rank};
@@ -134,7 +134,7 @@ pub(crate) fn all_fit(kind: Kind, listed: &[AnyIndex]) -> Result<(), WhyRefused>
 // The name is that of a rectangular domain of the rank.
 fn names_rectangle(
     book: &Layered<'_>,
-    footprint: &mut ReadFootprint,
+    footprint: &mut FootprintBuilder,
     rank: u8,
     name: Name,
 ) -> Result<(), AttemptErr>
@@ -147,7 +147,7 @@ fn names_rectangle(
 /// A rectangle of the rank is given.
 pub(crate) fn gives_rectangle(
     book: &Layered<'_>,
-    footprint: &mut ReadFootprint,
+    footprint: &mut FootprintBuilder,
     rank: u8,
     given: &Operand,
 ) -> Result<(), AttemptErr>
@@ -163,7 +163,7 @@ pub(crate) fn gives_rectangle(
 /// The ranges that are given.
 pub(crate) fn ranges_given(
     book: &Layered<'_>,
-    footprint: &mut ReadFootprint,
+    footprint: &mut FootprintBuilder,
     given: &Operand,
 ) -> Result<AnyRect, AttemptErr>
     ensures { Looks (ranges_given given.now) book.now.cells footprint.old result footprint.new }
@@ -178,7 +178,7 @@ pub(crate) fn ranges_given(
 // The name is that of a domain like one of the kind.
 fn names_set(
     book: &Layered<'_>,
-    footprint: &mut ReadFootprint,
+    footprint: &mut FootprintBuilder,
     kind: Kind,
     name: Name,
 ) -> Result<(), AttemptErr>
@@ -191,7 +191,7 @@ fn names_set(
 /// A set for a domain of the kind is given.
 pub(crate) fn gives_set(
     book: &Layered<'_>,
-    footprint: &mut ReadFootprint,
+    footprint: &mut FootprintBuilder,
     kind: Kind,
     given: &Operand,
 ) -> Result<(), AttemptErr>
@@ -223,7 +223,7 @@ fn listed(alloc: Global, items: &Assoc<AnyIndex>) -> Result<Vec<AnyIndex>, Attem
 pub(crate) fn indices_given(
     alloc: Global,
     book: &Layered<'_>,
-    footprint: &mut ReadFootprint,
+    footprint: &mut FootprintBuilder,
     given: &Operand,
 ) -> Result<Vec<AnyIndex>, AttemptErr>
     ensures looks { Looks (indices_given given.now) book.now.cells footprint.old (found_members result) footprint.new }

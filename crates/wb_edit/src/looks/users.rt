@@ -11,7 +11,7 @@ ghost use Rattle.wb_edit.specs.Users.{binding_in, user_in, named, bound, is_unus
 ghost use Rattle.wb_edit.specs.declared.attempt_err.AttemptErr.TheVariants.{NoMemory};
 
 use crate::attempt_err::{AttemptErr, or_refused};
-use crate::footprint::ReadFootprint;
+use crate::footprint::FootprintBuilder;
 use std::alloc::{AllocError, Global};
 use wb_cells::{Binding, Cell, Name, Pattern, Value, WhyRefused};
 use wb_layers::Layered;
@@ -67,7 +67,7 @@ fn users_in(alloc: Global, shown: &[(Cell, Value)]) -> Result<Vec<(Name, Binding
 pub(crate) fn uses(
     alloc: Global,
     book: &Layered<'_>,
-    footprint: &mut ReadFootprint,
+    footprint: &mut FootprintBuilder,
     domain: Name,
 ) -> Result<Vec<(Name, Binding)>, AttemptErr>
     ensures looks { Looks (uses domain) book.now.cells footprint.old (items_of result) footprint.new }
@@ -172,7 +172,7 @@ pub(crate) fn is_unused(users: &[(Name, Binding)]) -> Result<(), WhyRefused>
 pub(crate) fn unused(
     alloc: Global,
     book: &Layered<'_>,
-    footprint: &mut ReadFootprint,
+    footprint: &mut FootprintBuilder,
     domain: Name,
 ) -> Result<(), AttemptErr>
     ensures { Looks (unused domain) book.now.cells footprint.old result footprint.new }

@@ -9,7 +9,7 @@ ghost use Rattle.wb_log.specs.Records.{lent_footprint};
 ghost use Rattle.wb_log.specs.Needed.{AreFromFootprints};
 
 use crate::blockers;
-use crate::entry::{LentFootprint, Record};
+use crate::entry::{EditRecord, LentFootprint};
 use crate::sweep::needing;
 use std::alloc::Global;
 use wb_cells::Changes;
@@ -38,7 +38,7 @@ impl ByFootprint {
     }
 
     /// The next edit enters, or none where no memory is left.
-    fn enter(&mut self, entry: &Record) -> Result<(), NoMemory>
+    fn enter(&mut self, entry: &EditRecord) -> Result<(), NoMemory>
         requires { self.old.entered < 2 ^ 63 }
         ensures ok { OnOk result ((count : ℕ) (footprints : Footprints) → IsByFootprint self.old count footprints → self.old.entered < count →
             footprints (self.old.entered + 1) ≡ kept_in entry.now → IsByFootprint self.new count footprints) }
@@ -54,7 +54,7 @@ impl ByFootprint {
     }
 
     /// Edits enter up to the last, or as far as memory goes.
-    fn fill(&mut self, entries: &[Record])
+    fn fill(&mut self, entries: &[EditRecord])
         requires few { length entries.now < 2 ^ 63 }
         requires indexed { IsByFootprint self.old (length entries.now) (by_number entries.now) }
         ensures indexed { IsByFootprint self.new (length entries.now) (by_number entries.now) }
@@ -71,7 +71,7 @@ impl ByFootprint {
     /// The number of the first edit after a place that needs one that wrote the cells.
     pub(crate) fn first_to_block_undo(
         &mut self,
-        entries: &[Record],
+        entries: &[EditRecord],
         at: usize,
         before: &Changes,
     ) -> Option<u64>
@@ -92,7 +92,7 @@ impl ByFootprint {
     /// The number of the first edit after a place that needs, or is needed by, one with these reads and changes.
     pub(crate) fn first_to_block_redo(
         &mut self,
-        entries: &[Record],
+        entries: &[EditRecord],
         at: usize,
         read: &ReadFootprint,
         delta: &Changes,
@@ -114,7 +114,11 @@ impl ByFootprint {
     }
 
     /// The numbers of the edits that have to be undone with the one at a place, from the greatest down.
-    pub(crate) fn needing(&mut self, entries: &[Record], at: usize) -> Result<Vec<u64>, NoMemory>
+    pub(crate) fn needing(
+        &mut self,
+        entries: &[EditRecord],
+        at: usize,
+    ) -> Result<Vec<u64>, NoMemory>
         requires in_log { at < length entries.now }
         requires few { length entries.now < 2 ^ 63 }
         requires indexed { IsByFootprint self.old (length entries.now) (by_number entries.now) }
@@ -129,7 +133,7 @@ impl ByFootprint {
     }
 
     /// The edit at a place is out of force.
-    pub(crate) fn take(&mut self, at: usize, kept: &LentFootprint<'_>)
+    pub(crate) fn left_force(&mut self, at: usize, kept: &LentFootprint<'_>)
         requires { at < 2 ^ 63 }
         ensures { (count : ℕ) (footprints : Footprints) → IsByFootprint self.old count footprints →
             footprints (at + 1) ≡ Some (lent_footprint kept.now) → IsByFootprint self.new count (with_footprint footprints (at + 1) None) }
@@ -140,7 +144,7 @@ impl ByFootprint {
     }
 
     /// The edit at a place is in force again. Where no memory is left for it, none has entered.
-    pub(crate) fn put_back(&mut self, at: usize, kept: &LentFootprint<'_>)
+    pub(crate) fn back_in_force(&mut self, at: usize, kept: &LentFootprint<'_>)
         requires { at < 2 ^ 63 }
         ensures { (count : ℕ) (footprints : Footprints) → IsByFootprint self.old count footprints → footprints (at + 1) ≡ None →
             IsByFootprint self.new count (with_footprint footprints (at + 1) (Some (lent_footprint kept.now))) }
@@ -173,7 +177,7 @@ fn take_kept(index: &mut FootIndex, number: u64, kept: &LentFootprint<'_>)
     index.take(number, reads, runs, kept.before());
 }
 
-fn later_than(entries: &[Record], at: usize) -> &[Record]
+fn later_than(entries: &[EditRecord], at: usize) -> &[EditRecord]
     requires { at < length entries.now }
     ensures { result.now ≡ drop (at + 1) entries.now }
 {

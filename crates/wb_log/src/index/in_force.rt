@@ -7,7 +7,7 @@ ghost use Rattle.wb_footprints.specs.Footprints.{Footprints, with_footprint};
 ghost use Rattle.wb_log.specs.Indexed.{AreInForce};
 ghost use Rattle.wb_log.specs.Kept.{IsLatest, by_number, kept_in, kept_all};
 
-use crate::entry::Record;
+use crate::entry::EditRecord;
 use std::alloc::Global;
 use wb_footprints::Numbers;
 use wb_range::NoMemory;
@@ -33,7 +33,7 @@ impl InForce {
     }
 
     /// The next edit enters, or none where no memory is left.
-    fn enter(&mut self, entry: &Record) -> Result<(), NoMemory>
+    fn enter(&mut self, entry: &EditRecord) -> Result<(), NoMemory>
         requires { self.old.entered < 2 ^ 63 }
         ensures ok { OnOk result ((count : ℕ) (footprints : Footprints) → AreInForce self.old count footprints → self.old.entered < count →
             footprints (self.old.entered + 1) ≡ kept_in entry.now → AreInForce self.new count footprints) }
@@ -48,7 +48,7 @@ impl InForce {
     }
 
     /// Edits enter up to the last, or as far as memory goes.
-    fn fill(&mut self, entries: &[Record])
+    fn fill(&mut self, entries: &[EditRecord])
         requires few { length entries.now < 2 ^ 63 }
         requires indexed { AreInForce self.old (length entries.now) (by_number entries.now) }
         ensures indexed { AreInForce self.new (length entries.now) (by_number entries.now) }
@@ -63,7 +63,7 @@ impl InForce {
     }
 
     /// The place of the latest edit in force.
-    pub(crate) fn latest(&mut self, entries: &[Record]) -> Option<usize>
+    pub(crate) fn latest(&mut self, entries: &[EditRecord]) -> Option<usize>
         requires few { length entries.now < 2 ^ 63 }
         requires indexed { AreInForce self.old (length entries.now) (by_number entries.now) }
         ensures latest { IsLatest (kept_all entries.now) result }
@@ -80,7 +80,7 @@ impl InForce {
     }
 
     /// The edit at a place is out of force.
-    pub(crate) fn take(&mut self, at: usize)
+    pub(crate) fn left_force(&mut self, at: usize)
         requires { at < 2 ^ 63 }
         ensures { (count : ℕ) (footprints : Footprints) → AreInForce self.old count footprints →
             AreInForce self.new count (with_footprint footprints (at + 1) None) }
@@ -91,7 +91,7 @@ impl InForce {
     }
 
     /// The edit at a place is in force again. Where no memory is left for it, none has entered.
-    pub(crate) fn put_back(&mut self, at: usize)
+    pub(crate) fn back_in_force(&mut self, at: usize)
         requires { at < 2 ^ 63 }
         ensures { (count : ℕ) (footprints : Footprints) (f : Footprint workbook) → AreInForce self.old count footprints →
             AreInForce self.new count (with_footprint footprints (at + 1) (Some f)) }
@@ -106,7 +106,7 @@ impl InForce {
 }
 
 /// The place of the latest edit in force, found from the end.
-fn latest_from_the_end(entries: &[Record]) -> Option<usize>
+fn latest_from_the_end(entries: &[EditRecord]) -> Option<usize>
     ensures { IsLatest (kept_all entries.now) result }
 {
     let mut at = entries.len();

@@ -16,49 +16,49 @@ use crate::index::in_force::InForce;
 use std::alloc::Global;
 
 /// Indexes over the edits in force.
-pub(crate) struct Index {
+pub(crate) struct EditIndex {
     pub(crate) by_footprint: ByFootprint,
     pub(crate) in_force: InForce,
 }
 
 // In a function of its own, so that a crate above need not prove anew how each field is let go.
-impl Drop for Index {
+impl Drop for EditIndex {
     fn drop(self) {
-        let Index {
+        let EditIndex {
             by_footprint: _,
             in_force: _,
         } = self;
     }
 }
 
-impl Index {
+impl EditIndex {
     /// No edit has entered.
-    pub(crate) fn new(alloc: Global) -> Index
+    pub(crate) fn new(alloc: Global) -> EditIndex
         ensures { (count : ℕ) (footprints : Footprints) → footprints 0 ≡ None → Indexes result count footprints }
     {
-        Index {
+        EditIndex {
             by_footprint: ByFootprint::new(alloc),
             in_force: InForce::new(alloc),
         }
     }
 
     /// The edit at a place, which was in force, no longer is.
-    pub(crate) fn take(&mut self, at: usize, kept: &LentFootprint<'_>)
+    pub(crate) fn left_force(&mut self, at: usize, kept: &LentFootprint<'_>)
         requires { at < 2 ^ 63 }
         ensures { (count : ℕ) (footprints : Footprints) → Indexes self.old count footprints → footprints (at + 1) ≡ Some (lent_footprint kept.now) →
             Indexes self.new count (with_footprint footprints (at + 1) None) }
     {
-        self.by_footprint.take(at, kept);
-        self.in_force.take(at);
+        self.by_footprint.left_force(at, kept);
+        self.in_force.left_force(at);
     }
 
     /// The edit at a place, which was out of force, is in force again.
-    pub(crate) fn put_back(&mut self, at: usize, kept: &LentFootprint<'_>)
+    pub(crate) fn back_in_force(&mut self, at: usize, kept: &LentFootprint<'_>)
         requires { at < 2 ^ 63 }
         ensures { (count : ℕ) (footprints : Footprints) → Indexes self.old count footprints → footprints (at + 1) ≡ None →
             Indexes self.new count (with_footprint footprints (at + 1) (Some (lent_footprint kept.now))) }
     {
-        self.by_footprint.put_back(at, kept);
-        self.in_force.put_back(at);
+        self.by_footprint.back_in_force(at, kept);
+        self.in_force.back_in_force(at);
     }
 }

@@ -1,6 +1,6 @@
 ghost use Rattle.std.specs.Prelude.{◌≡◌, [], ◌∷◌, ◌++◌, OnOk, OnErr, false};
 
-use crate::entry::Record;
+use crate::entry::EditRecord;
 use crate::log::Log;
 use wb_edit::Edit;
 use wb_range::NoMemory;
@@ -14,7 +14,7 @@ impl Log {
     {
         // For the proof: what every edit is, which the entries are to keep.
         edit.validity();
-        let entry = Record::aside(self.alloc, edit)?;
+        let entry = EditRecord::undone(self.alloc, edit)?;
         self.entries.push(entry)?;
         Ok(())
     }

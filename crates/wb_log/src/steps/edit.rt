@@ -10,7 +10,7 @@ ghost use Rattle.wb_log.specs.Kept.{plan_refusal};
 ghost use Rattle.wb_log.specs.Past.{meant};
 ghost use Rattle.wb_log.specs.Replies.{EditReply};
 
-use crate::entry::Record;
+use crate::entry::EditRecord;
 use crate::log::Log;
 use crate::steps::making::make;
 use wb_arrays::Mover;
@@ -84,7 +84,10 @@ impl Log {
         }
         match self.book.replace(array, place, *value) {
             None => None,
-            Some(was) => match self.entries.push(Record::set(array, place, value, &was)) {
+            Some(was) => match self
+                .entries
+                .push(EditRecord::set(array, place, value, &was))
+            {
                 Ok(()) => Some(self.entries.len() as u64),
                 Err(_) => unreachable!(),
             },
@@ -136,7 +139,7 @@ impl Log {
         if self.entries.reserve(1).is_err() {
             return Err(NoMemory);
         }
-        match Record::aside(self.alloc, edit) {
+        match EditRecord::undone(self.alloc, edit) {
             Err(why) => Err(why),
             Ok(mut entry) => {
                 match make(

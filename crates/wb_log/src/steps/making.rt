@@ -11,7 +11,7 @@ ghost use Rattle.wb_cells.specs.declared.cells.pattern.Pattern.TheVariants.{One}
 ghost use Rattle.wb_log.specs.Records.{shown, kept_of, held_of, cell_before, value_before};
 
 use crate::cells_were::CellsWere;
-use crate::entry::{Before, Entry, Form, Kept, Record};
+use crate::entry::{Before, EditRecord, LoggedEdit, RecordForm, UndoData};
 use crate::steps::held;
 use std::alloc::Global;
 use wb_arrays::Mover;
@@ -153,23 +153,52 @@ fn old_value(
 }
 
 // What the cell held that the edit of a form changed, where what it read, and what takes it back, follow from that.
-fn old_of(book: &Book, form: &Form, delta: &Delta, footprint: &ReadFootprint) -> Option<Before>
+fn old_of(
+    book: &Book,
+    form: &RecordForm,
+    delta: &Delta,
+    footprint: &ReadFootprint,
+) -> Option<Before>
     ensures { IfSome result (λ was. kept_of form.now (Some was) ≡ Some (record { footprint = footprint.now; inverse = inverse delta.now book.now.cells })) }
 {
     match form {
-        Form::Set(element) => old_value(book, &element.reads(), &element.cell(), delta, footprint),
-        Form::Copy(copied) => old_value(book, &copied.reads(), &copied.cell(), delta, footprint),
-        Form::Irv(implicit) => old_value(
+        RecordForm::Set(element) => old_value(
+            book,
+            &element.reads(),
+            &element.cell(),
+            delta,
+            footprint,
+        ),
+        RecordForm::Copy(copied) => old_value(
+            book,
+            &copied.reads(),
+            &copied.cell(),
+            delta,
+            footprint,
+        ),
+        RecordForm::Irv(implicit) => old_value(
             book,
             &implicit.reads(),
             &implicit.cell(),
             delta,
             footprint,
         ),
-        Form::Member(member) => old_value(book, &member.reads(), &member.cell(), delta, footprint),
-        Form::Fill(filled) => old_value(book, &filled.reads(), &filled.cell(), delta, footprint),
-        Form::Sets(_) => None,
-        Form::Whole(_) => None,
+        RecordForm::Member(member) => old_value(
+            book,
+            &member.reads(),
+            &member.cell(),
+            delta,
+            footprint,
+        ),
+        RecordForm::Fill(filled) => old_value(
+            book,
+            &filled.reads(),
+            &filled.cell(),
+            delta,
+            footprint,
+        ),
+        RecordForm::Sets(_) => None,
+        RecordForm::Whole(_) => None,
     }
 }
 
@@ -177,14 +206,14 @@ fn old_of(book: &Book, form: &Form, delta: &Delta, footprint: &ReadFootprint) ->
 fn olds_of(
     alloc: Global,
     book: &Book,
-    form: &Form,
+    form: &RecordForm,
     delta: &Delta,
     footprint: &ReadFootprint,
 ) -> Result<Option<CellsWere>, NoMemory>
     ensures { IfOk result (λ o. IfSome o (λ were. held_of form.now were ≡ Some (record { footprint = footprint.now; inverse = inverse delta.now book.now.cells }))) }
 {
     match form {
-        Form::Sets(sets) => held::held_of(alloc, book, &sets.edit.object(), delta, footprint),
+        RecordForm::Sets(sets) => held::held_of(alloc, book, &sets.edit.object(), delta, footprint),
         _ => Ok(None),
     }
 }
@@ -192,7 +221,7 @@ fn olds_of(
 // Makes the changes, and keeps all that takes them back.
 fn make_whole<M: Mover>(
     book: &mut Book,
-    entry: &mut Entry,
+    entry: &mut LoggedEdit,
     delta: Delta,
     footprint: ReadFootprint,
     mover: &M,
@@ -211,7 +240,7 @@ fn make_whole<M: Mover>(
     match book.apply(delta, mover) {
         Err(_) => Err(NoMemory),
         Ok(inverse) => {
-            entry.kept = Some(Kept { footprint, inverse });
+            entry.kept = Some(UndoData { footprint, inverse });
             Ok(())
         }
     }
@@ -225,18 +254,18 @@ fn make_new<M: Mover>(
     delta: Delta,
     footprint: ReadFootprint,
     mover: &M,
-) -> Result<Form, NoMemory>
+) -> Result<RecordForm, NoMemory>
     requires well_formed { IsWellFormed (apply delta book.old.cells) }
     ensures form { IfOk result (λ f. shown f ≡ record { edit = edit; kept = Some (record { footprint = footprint; inverse = inverse delta book.old.cells }) }) }
     ensures cells { OnOk result (book.new.cells ≡ apply delta book.old.cells) }
     ensures writes { OnOk result (book.new.writes ≡ saturating_add book.old.writes (count_of delta)) }
     ensures book_stays { OnErr result (book.new ≡ book.old) }
 {
-    match Box::new(alloc, Entry { edit, kept: None }) {
+    match Box::new(alloc, LoggedEdit { edit, kept: None }) {
         Err(_) => Err(NoMemory),
         Ok(mut entry) => match make_whole(book, &mut entry, delta, footprint, mover) {
             Err(why) => Err(why),
-            Ok(()) => Ok(Form::Whole(entry)),
+            Ok(()) => Ok(RecordForm::Whole(entry)),
         },
     }
 }
@@ -245,7 +274,7 @@ fn make_new<M: Mover>(
 fn make_unlike<M: Mover>(
     alloc: Global,
     book: &mut Book,
-    form: &mut Form,
+    form: &mut RecordForm,
     delta: Delta,
     footprint: ReadFootprint,
     mover: &M,
@@ -262,7 +291,7 @@ fn make_unlike<M: Mover>(
     ensures book_stays { OnErr result (book.new ≡ book.old) }
 {
     match form {
-        Form::Whole(entry) => make_whole(book, entry, delta, footprint, mover),
+        RecordForm::Whole(entry) => make_whole(book, entry, delta, footprint, mover),
         _ => match form.copy_of_edit(alloc) {
             Err(why) => Err(why),
             Ok(edit) => match make_new(alloc, book, edit, delta, footprint, mover) {
@@ -280,7 +309,7 @@ fn make_unlike<M: Mover>(
 fn make_one<M: Mover>(
     alloc: Global,
     book: &mut Book,
-    form: &mut Form,
+    form: &mut RecordForm,
     delta: Delta,
     footprint: ReadFootprint,
     mover: &M,
@@ -312,7 +341,7 @@ fn make_one<M: Mover>(
 fn make_form<M: Mover>(
     alloc: Global,
     book: &mut Book,
-    form: &mut Form,
+    form: &mut RecordForm,
     delta: Delta,
     footprint: ReadFootprint,
     mover: &M,
@@ -345,7 +374,7 @@ fn make_form<M: Mover>(
 pub(crate) fn make<M: Mover>(
     alloc: Global,
     book: &mut Book,
-    entry: &mut Record,
+    entry: &mut EditRecord,
     delta: Delta,
     footprint: ReadFootprint,
     mover: &M,

@@ -10,8 +10,8 @@ ghost use Rattle.wb_log.specs.Kept.{kept_in, Shows, PlansAgain, redo_blocker, st
 ghost use Rattle.wb_log.specs.Past.{meant, into_force};
 ghost use Rattle.wb_log.specs.Replies.{RedoReply, RedoesInPlace};
 
-use crate::entry::Record;
-use crate::index::Index;
+use crate::entry::EditRecord;
+use crate::index::EditIndex;
 use crate::log::Log;
 use crate::steps::making::make;
 use std::alloc::Global;
@@ -25,7 +25,7 @@ use wb_range::NoMemory;
 fn plan_of(
     alloc: Global,
     book: &Book,
-    entry: &Record,
+    entry: &EditRecord,
 ) -> Result<(Delta, ReadFootprint, usize), PlanErr>
     ensures { IsPlan (meaning entry.now.edit) book.now.cells result }
 {
@@ -39,8 +39,8 @@ fn plan_of(
 fn plan_again(
     alloc: Global,
     book: &Book,
-    entries: &[Record],
-    index: &mut Index,
+    entries: &[EditRecord],
+    index: &mut EditIndex,
     at: usize,
 ) -> Result<(Delta, ReadFootprint, usize), Refusal>
     // The place is in the log, which belongs together with its workbook and its index.
@@ -71,8 +71,8 @@ fn plan_again(
 
 /// The number of the first later edit that a plan meets.
 fn plan_blocker(
-    entries: &[Record],
-    index: &mut Index,
+    entries: &[EditRecord],
+    index: &mut EditIndex,
     at: usize,
     footprint: &ReadFootprint,
     delta: &Delta,
@@ -90,8 +90,8 @@ fn plan_blocker(
 
 /// The number of the first later edit that a refused plan meets, by what it read alone.
 fn refused_blocker(
-    entries: &[Record],
-    index: &mut Index,
+    entries: &[EditRecord],
+    index: &mut EditIndex,
     at: usize,
     footprint: &ReadFootprint,
 ) -> Option<u64>
@@ -108,7 +108,12 @@ fn refused_blocker(
 }
 
 /// Why an edit whose plan stopped is not redone.
-fn refusal_in_place(entries: &[Record], index: &mut Index, at: usize, stop: PlanErr) -> Refusal
+fn refusal_in_place(
+    entries: &[EditRecord],
+    index: &mut EditIndex,
+    at: usize,
+    stop: PlanErr,
+) -> Refusal
     requires in_log { at < length entries.now }
     requires few { length entries.now < 2 ^ 63 }
     requires indexed { IsIndexed index.old entries.now }
@@ -128,8 +133,8 @@ fn refusal_in_place(entries: &[Record], index: &mut Index, at: usize, stop: Plan
 fn put_in<M: Mover>(
     alloc: Global,
     book: &mut Book,
-    entry: &mut Record,
-    index: &mut Index,
+    entry: &mut EditRecord,
+    index: &mut EditIndex,
     at: usize,
     delta: Delta,
     footprint: ReadFootprint,
@@ -159,7 +164,7 @@ fn put_in<M: Mover>(
         Err(why) => Err(why),
         Ok(()) => match entry.kept() {
             Some(kept) => {
-                index.put_back(at, &kept);
+                index.back_in_force(at, &kept);
                 Ok(())
             }
             None => unreachable!(),

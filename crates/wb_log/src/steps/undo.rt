@@ -7,15 +7,15 @@ ghost use Rattle.wb_log.specs.Kept.{kept_in, MayUndo, TakenBack, LeavesWellForme
 ghost use Rattle.wb_log.specs.Past.{meant, out_of_force};
 ghost use Rattle.wb_log.specs.Replies.{UndoReply, LastReply, SetsBack, LeavesOthers, Restores};
 
-use crate::entry::Record;
-use crate::index::Index;
+use crate::entry::EditRecord;
+use crate::index::EditIndex;
 use crate::log::Log;
 use wb_arrays::Mover;
 use wb_book::Book;
 use wb_edit::Refusal;
 
 /// Why the edit at a place may not be undone.
-fn undo_refusal(entries: &[Record], index: &mut Index, at: usize) -> Option<Refusal>
+fn undo_refusal(entries: &[EditRecord], index: &mut EditIndex, at: usize) -> Option<Refusal>
     requires in_log { at < length entries.now }
     requires few { length entries.now < 2 ^ 63 }
     requires indexed { IsIndexed index.old entries.now }
@@ -37,8 +37,8 @@ fn undo_refusal(entries: &[Record], index: &mut Index, at: usize) -> Option<Refu
 /// Sets back what the edit at a place, which is in force, wrote. Want of threads is answered as want of memory.
 fn take_back<M: Mover>(
     book: &mut Book,
-    entry: &mut Record,
-    index: &mut Index,
+    entry: &mut EditRecord,
+    index: &mut EditIndex,
     at: usize,
     mover: &M,
 ) -> Result<usize, Refusal>
@@ -62,7 +62,7 @@ fn take_back<M: Mover>(
         Some(kept) => match book.revert(kept.before(), mover) {
             Err(_) => return Err(Refusal::NoMemory),
             Ok(()) => {
-                index.take(at, &kept);
+                index.left_force(at, &kept);
                 kept.before().count()
             }
         },

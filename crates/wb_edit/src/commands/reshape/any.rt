@@ -6,7 +6,7 @@ ghost use Rattle.wb_edit.specs.Commands.Reshape.{reshape, reshape_kind};
 use crate::attempt_err::AttemptErr;
 use crate::commands::reshape::rectangles::plan_reshape_rectangle;
 use crate::commands::reshape::sets::{plan_reshape_associative, plan_reshape_sparse};
-use crate::footprint::ReadFootprint;
+use crate::footprint::FootprintBuilder;
 use crate::looks::one_cell::domain_named;
 use std::alloc::Global;
 use wb_cells::{AnyDomain, Delta, DomainKind, Name};
@@ -16,7 +16,7 @@ use wb_reshape::NewIndices;
 fn plan_reshape_kind(
     alloc: Global,
     book: &Layered<'_>,
-    footprint: &mut ReadFootprint,
+    footprint: &mut FootprintBuilder,
     domain: Name,
     kind: &AnyDomain,
     source: &NewIndices,
@@ -40,7 +40,7 @@ fn plan_reshape_kind(
 pub(crate) fn plan_reshape(
     alloc: Global,
     book: &Layered<'_>,
-    footprint: &mut ReadFootprint,
+    footprint: &mut FootprintBuilder,
     domain: Name,
     source: &NewIndices,
 ) -> Result<Delta, AttemptErr>

@@ -4,7 +4,7 @@ ghost use Rattle.wb_edit.specs.Plans.{Attempts};
 ghost use Rattle.wb_edit.specs.Commands.Reshape.{no_source};
 
 use crate::attempt_err::AttemptErr;
-use crate::footprint::ReadFootprint;
+use crate::footprint::FootprintBuilder;
 use crate::looks::one_cell::domain_named;
 use wb_cells::{Delta, WhyRefused};
 use wb_layers::Layered;
@@ -13,7 +13,7 @@ use wb_reshape::Operand;
 /// There is no such source for the domain; a name that is given is tested first.
 pub(crate) fn plan_no_source(
     book: &Layered<'_>,
-    footprint: &mut ReadFootprint,
+    footprint: &mut FootprintBuilder,
     given: &Operand,
 ) -> Result<Delta, AttemptErr>
     ensures { Attempts (no_source given.now) book.now.cells footprint.old result footprint.new }

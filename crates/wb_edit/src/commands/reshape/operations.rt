@@ -16,7 +16,7 @@ ghost use Rattle.wb_edit.specs.Plans.{Attempts};
 
 use crate::attempt_err::AttemptErr;
 use crate::commands::resized::plan_exchanged;
-use crate::footprint::ReadFootprint;
+use crate::footprint::FootprintBuilder;
 use crate::looks::indices::{listed_members, look_at_members};
 use crate::looks::sources::{gives_set, indices_given};
 use std::alloc::Global;
@@ -134,7 +134,7 @@ fn exchange_by(
 fn plan_combined(
     alloc: Global,
     book: &Layered<'_>,
-    footprint: &mut ReadFootprint,
+    footprint: &mut FootprintBuilder,
     domain: Name,
     key: KeyType,
     how: SetOperation,
@@ -163,7 +163,7 @@ fn plan_combined(
 pub(crate) fn plan_combine(
     alloc: Global,
     book: &Layered<'_>,
-    footprint: &mut ReadFootprint,
+    footprint: &mut FootprintBuilder,
     domain: Name,
     key: KeyType,
     how: SetOperation,

@@ -7,7 +7,7 @@ ghost use Rattle.wb_edit.specs.Commands.Reshape.{to_rectangle, slice_rectangle, 
 use crate::attempt_err::{AttemptErr, or_refused};
 use crate::commands::reshape::no_source::plan_no_source;
 use crate::commands::reshape::replaced::plan_replaced;
-use crate::footprint::ReadFootprint;
+use crate::footprint::FootprintBuilder;
 use crate::looks::reshaping::shape;
 use crate::looks::sources::{displacement_of, gives_rectangle, ranges_given, same_rank, slice_of};
 use std::alloc::Global;
@@ -20,7 +20,7 @@ use wb_reshape::{Displacement, NewIndices, Operand};
 fn plan_reshaped(
     alloc: Global,
     book: &Layered<'_>,
-    footprint: &mut ReadFootprint,
+    footprint: &mut FootprintBuilder,
     domain: Name,
     old: &AnyRect,
     new: &AnyRect,
@@ -40,7 +40,7 @@ fn plan_reshaped(
 fn plan_to(
     alloc: Global,
     book: &Layered<'_>,
-    footprint: &mut ReadFootprint,
+    footprint: &mut FootprintBuilder,
     domain: Name,
     rank: u8,
     given: &Operand,
@@ -57,7 +57,7 @@ fn plan_to(
 fn plan_slice(
     alloc: Global,
     book: &Layered<'_>,
-    footprint: &mut ReadFootprint,
+    footprint: &mut FootprintBuilder,
     domain: Name,
     rank: u8,
     given: &Operand,
@@ -75,7 +75,7 @@ fn plan_slice(
 fn plan_displace(
     alloc: Global,
     book: &Layered<'_>,
-    footprint: &mut ReadFootprint,
+    footprint: &mut FootprintBuilder,
     domain: Name,
     rank: u8,
     how: Displacement,
@@ -93,7 +93,7 @@ fn plan_displace(
 pub(crate) fn plan_reshape_rectangle(
     alloc: Global,
     book: &Layered<'_>,
-    footprint: &mut ReadFootprint,
+    footprint: &mut FootprintBuilder,
     domain: Name,
     rank: u8,
     source: &NewIndices,

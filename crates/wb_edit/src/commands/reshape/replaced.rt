@@ -8,7 +8,7 @@ ghost use Rattle.wb_edit.specs.Reshaping.{reshaped_cells, replaced};
 
 use crate::attempt_err::AttemptErr;
 use crate::commands::writes::{NamedDomain, put, resize};
-use crate::footprint::ReadFootprint;
+use crate::footprint::FootprintBuilder;
 use crate::looks::reshaping::none_there;
 use crate::looks::resizing::zeros;
 use crate::looks::users::{arrays, sparse_domains, uses};
@@ -20,7 +20,7 @@ use wb_layers::Layered;
 pub(crate) fn plan_replaced(
     alloc: Global,
     book: &Layered<'_>,
-    footprint: &mut ReadFootprint,
+    footprint: &mut FootprintBuilder,
     domain: Name,
     new: &AnyRect,
     leaving: &[AnyIndex],

@@ -9,7 +9,7 @@ use crate::attempt_err::AttemptErr;
 use crate::commands::reshape::no_source::plan_no_source;
 use crate::commands::reshape::operations::plan_combine;
 use crate::commands::resized::plan_resized;
-use crate::footprint::ReadFootprint;
+use crate::footprint::FootprintBuilder;
 use crate::looks::indices::members;
 use crate::looks::sources::{gives_set, indices_given};
 use std::alloc::Global;
@@ -22,7 +22,7 @@ use wb_reshape::{NewIndices, Operand};
 fn plan_with_indices(
     alloc: Global,
     book: &Layered<'_>,
-    footprint: &mut ReadFootprint,
+    footprint: &mut FootprintBuilder,
     domain: Name,
     kind: &AnyDomain,
     old: &[AnyIndex],
@@ -45,7 +45,7 @@ fn plan_with_indices(
 fn plan_to(
     alloc: Global,
     book: &Layered<'_>,
-    footprint: &mut ReadFootprint,
+    footprint: &mut FootprintBuilder,
     domain: Name,
     kind: &AnyDomain,
     given: &Operand,
@@ -62,7 +62,7 @@ fn plan_to(
 pub(crate) fn plan_reshape_sparse(
     alloc: Global,
     book: &Layered<'_>,
-    footprint: &mut ReadFootprint,
+    footprint: &mut FootprintBuilder,
     domain: Name,
     kind: &AnyDomain,
     source: &NewIndices,
@@ -81,7 +81,7 @@ pub(crate) fn plan_reshape_sparse(
 pub(crate) fn plan_reshape_associative(
     alloc: Global,
     book: &Layered<'_>,
-    footprint: &mut ReadFootprint,
+    footprint: &mut FootprintBuilder,
     domain: Name,
     key: KeyType,
     source: &NewIndices,

@@ -6,7 +6,7 @@ use Rattle.wb_log.proofs.steps.redo.put_in.Goals as goal
 
 pub returns-in-Some-clause-put : goal.returns-in-Some-clause-put
 returns-in-Some-clause-put g c = λ count footprints h none.
-    let now = c.put_back.new.self in
+    let now = c.back_in_force.new.self in
     let n = c.args.at + 1 in
     subst (λ o. Indexes now count (with_footprint footprints n o)) (sym (ap (option_map lent_footprint) c.in-Some.is) ∙ c.kept.ensures)
-    (c.put_back.ensures count footprints h none)
+    (c.back_in_force.ensures count footprints h none)

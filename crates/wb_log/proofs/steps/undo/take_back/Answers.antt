@@ -4,4 +4,4 @@ use Rattle.wb_log.proofs.steps.undo.take_back.Goals as goal
 
 pub returns-clause-taken : goal.returns-clause-taken
 returns-clause-taken g c = λ count footprints h is.
-    c.take.ensures count footprints h (is ∙ sym c.kept.ensures ∙ ap (option_map lent_footprint) c.in-Some.is)
+    c.left_force.ensures count footprints h (is ∙ sym c.kept.ensures ∙ ap (option_map lent_footprint) c.in-Some.is)

@@ -2,7 +2,7 @@ use Rattle.std.proofs.Common.{◌≡◌, Some, option_map, sym, ap, ◌∙◌}
 use Rattle.wb_cells.specs.Cells.{Changes}
 use Rattle.wb_log.specs.Kept.{footprint, kept_in}
 use Rattle.wb_log.specs.Records.{fill_reads, filled_cell, cell_before, before_in, one_kept, shown}
-use Rattle.wb_log.proofs.entry.Record.kept.Goals as goal
+use Rattle.wb_log.proofs.entry.EditRecord.kept.Goals as goal
 
 pub returns-in-Some-before-4 : goal.returns-in-Some-before-4
 returns-in-Some-before-4 c =

@@ -1,9 +1,0 @@
-use Rattle.wb_log.specs.Records.{lent_footprint}
-use Rattle.wb_log.proofs.index.Index.put_back.Goals as goal
-
-pub returns : goal.returns
-returns c = λ count footprints h none. record {
-  by_footprint = c.put_back.ensures count footprints h.by_footprint none;
-  in_force =
-      c.put_back-2.ensures count footprints (lent_footprint c.args.kept.now) h.in_force;
-}
