@@ -20,6 +20,7 @@ const MOST: usize = 8;
 ///
 /// It stays within this crate: a small vector can be written to as a stream, and a public type that holds one would pass the
 /// modules of files and sockets on to every crate above.
+#[derive(Drop)]
 pub(crate) struct FootprintBuilder {
     alloc: Global,
     first: SmallVec<Pattern, MOST>,

@@ -1,7 +1,6 @@
 //! `workbook`: a shared workbook of whole-number arrays with selective undo, one JSON line a request.
 #![tactic(auto)]
 
-use smallvec::SmallVec;
 use std::fs::{File, Files as FileSystem, OpenOptions};
 use std::io::{self, BufWriter};
 use std::net::{Net, TcpListener, TcpStream};
@@ -20,9 +19,6 @@ use wb_program::{do_asked, stay, stay_kept};
 use wb_sessions::{FileFault, Files, PutBack, Reason};
 use wb_statuses::{BAD_COMMAND_LINE, DONE, INPUT_OR_OUTPUT_FAILED, NO_MEMORY, REFUSED};
 use wb_visits::{Landings, Stop, wait_for_stop};
-
-/// The words of most command lines: so many are lent without memory of their own.
-const FEW: usize = 8;
 
 /// The path of a file that has nothing.
 const NOTHING: &str = "/dev/null";
@@ -242,7 +238,7 @@ fn by_words<
     for word in env::args(rt)? {
         words.push(word).map_err(|_| io::ErrorKind::OutOfMemory)?;
     }
-    let mut texts: SmallVec<&str, FEW> = SmallVec::new(alloc);
+    let mut texts = Vec::new(alloc);
     for word in &words {
         texts
             .push(word.as_str())

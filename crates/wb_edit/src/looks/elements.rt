@@ -17,7 +17,10 @@ use wb_layers::Layered;
 use wb_range::NoMemory;
 
 /// All elements of an array are looked at, whether or not they are listed.
-pub(crate) fn look_at_elements(footprint: &mut FootprintBuilder, array: Name) -> Result<(), AttemptErr>
+pub(crate) fn look_at_elements(
+    footprint: &mut FootprintBuilder,
+    array: Name,
+) -> Result<(), AttemptErr>
     ensures read { OnOk result (footprint.new ≡ footprint.old ++ Elements array ∷ []) }
     ensures only { IfErr result (λ e. e ≡ AttemptErr.NoMemory) }
 {

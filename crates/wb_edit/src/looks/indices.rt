@@ -28,7 +28,10 @@ pub(crate) enum Indices {
 }
 
 /// All indices of a sparse or associative domain are looked at, whether or not they are listed.
-pub(crate) fn look_at_members(footprint: &mut FootprintBuilder, domain: Name) -> Result<(), AttemptErr>
+pub(crate) fn look_at_members(
+    footprint: &mut FootprintBuilder,
+    domain: Name,
+) -> Result<(), AttemptErr>
     ensures read { OnOk result (footprint.new ≡ footprint.old ++ Members domain ∷ []) }
     ensures only { IfErr result (λ e. e ≡ AttemptErr.NoMemory) }
 {

@@ -35,7 +35,10 @@ fn shown_first(book: &Layered<'_>) -> Result<Option<Name>, AttemptErr>
 }
 
 /// There is no object. However many there are, it takes no memory for them where no change of an object is laid over them.
-pub(crate) fn no_object(book: &Layered<'_>, footprint: &mut FootprintBuilder) -> Result<(), AttemptErr>
+pub(crate) fn no_object(
+    book: &Layered<'_>,
+    footprint: &mut FootprintBuilder,
+) -> Result<(), AttemptErr>
     ensures { Looks no_object book.now.cells footprint.old result footprint.new }
 {
     match footprint.keep(Pattern::Objects) {

@@ -5,19 +5,26 @@ ghost use Rattle.serde_json.specs.View.{view};
 ghost use Rattle.wb_requests.specs.Answers.{IsAnswer};
 ghost use Rattle.wb_requests.specs.Requests.{by_op, request_of, request};
 
+use crate::requests::arrays::set_of;
 use crate::requests::fields::text_field;
+use crate::requests::queries::get_of;
 use crate::requests::request::Request;
-use crate::requests::single::by_single_op;
+use crate::requests::single::{by_single_op, redo_of, undo_of};
 use crate::requests::transactions::transaction_of;
 use serde_json::{Category, Error, Value};
 use std::alloc::Global;
 use wb_edit::Refusal;
 
-// What is asked by the word of an op.
+// What is asked by the word of an op. Those that come most are looked for first, since each look compares two words.
+#[tactic(auto, using(crate::proofs::Lines::as_answer))]
 fn by_op(alloc: Global, op: &str, value: &Value) -> Result<Request, Refusal>
     ensures { IsAnswer (by_op op.now (view value.now)) result }
 {
     match op {
+        "set" => set_of(value),
+        "get" => get_of(value),
+        "undo" => undo_of(value),
+        "redo" => redo_of(value),
         "transaction" => transaction_of(alloc, value),
         _ => by_single_op(alloc, op, value),
     }

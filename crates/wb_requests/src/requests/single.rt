@@ -29,7 +29,8 @@ fn undo_by_number(value: &Value) -> Result<Request, Refusal>
     Ok(Request::Undo(Some(number)))
 }
 
-fn undo_of(value: &Value) -> Result<Request, Refusal>
+/// The undo of an edit by its number, or of the latest.
+pub(crate) fn undo_of(value: &Value) -> Result<Request, Refusal>
     ensures { result ≡ undo_of (view value.now) }
 {
     if field_count(value) == 1 {
@@ -39,7 +40,8 @@ fn undo_of(value: &Value) -> Result<Request, Refusal>
     }
 }
 
-fn redo_of(value: &Value) -> Result<Request, Refusal>
+/// The redo of an edit.
+pub(crate) fn redo_of(value: &Value) -> Result<Request, Refusal>
     ensures { result ≡ redo_of (view value.now) }
 {
     has_fields(value, 2)?;
