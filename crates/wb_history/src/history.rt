@@ -244,7 +244,7 @@ impl History {
         }
     }
 
-    /// Takes an edit in as the last one, out of force: nothing is tried or made.
+    /// Appends an edit, out of force: nothing is tried or made.
     pub(crate) fn append_undone(&mut self, undone: Edit) -> Result<(), NoMemory>
         ensures entries { OnOk result (self.new.entries ≡ self.old.entries ++ one_of undone false ∷ []) }
         ensures writes { self.new.writes ≡ self.old.writes }
