@@ -16,10 +16,10 @@ use Rattle.selective_undo.proofs.Locality.{or_neither}
 use Rattle.wb_cells.specs.declared.cells.cell.Cell.{Cell}
 use Rattle.wb_cells.specs.declared.cells.cell.Cell.TheVariants.{Object}
 use Rattle.wb_cells.specs.declared.cells.pattern.Pattern.{Pattern}
-use Rattle.wb_cells.specs.declared.cells.pattern.Pattern.TheVariants.{Objects, Elements}
+use Rattle.wb_cells.specs.declared.cells.pattern.Pattern.TheVariants.{Objects, Members, Elements}
 use Rattle.wb_cells.specs.declared.cells.value.Value.{Value}
 use Rattle.wb_cells.specs.Cells.{Name, Cells, Changes, cell_cmp, cell_order, matches}
-use Rattle.wb_cells.specs.Readers.{seen, element_in, elements, object_of, objects}
+use Rattle.wb_cells.specs.Readers.{seen, member_in, members, element_in, elements, object_of, objects}
 use Rattle.wb_layers.specs.Places.{as_changes, IsFamily}
 use Rattle.wb_layers.proofs.Placed.{left_in-keeps}
 
@@ -132,7 +132,10 @@ objects_shown s = ap (filter_map (λ x. object_of x.0)) (entries-retain_keys cel
 pub objects_kept : (s : Cells) (xs : Changes) → list_any (λ x. matches Objects x.cell) xs ≡ false → objects (apply xs s) ≡ objects s
 objects_kept s xs e = sym (objects_shown (apply xs s)) ∙ ap (filter_map (λ x. object_of x.0)) (untouched Objects s xs e) ∙ objects_shown s
 
--- ---- elements
+-- ---- members and elements
+
+pub members_kept : (s : Cells) (xs : Changes) (d : Name) → list_any (λ x. matches (Members d) x.cell) xs ≡ false → members (apply xs s) d ≡ members s d
+members_kept s xs d e = ap (filter_map member_in) (untouched (Members d) s xs e)
 
 pub elements_kept : (s : Cells) (xs : Changes) (a : Name) → list_any (λ x. matches (Elements a) x.cell) xs ≡ false → elements (apply xs s) a ≡ elements s a
 elements_kept s xs a e = ap (filter_map element_in) (untouched (Elements a) s xs e)

@@ -4,7 +4,7 @@ ghost use Rattle.std.specs.Map.{keys_of};
 ghost use Rattle.selective_undo.specs.Changes.{apply};
 ghost use Rattle.selective_undo.specs.Together.{together};
 ghost use Rattle.wb_cells.specs.Cells.{cell_cmp};
-ghost use Rattle.wb_cells.specs.Readers.{seen, elements, objects};
+ghost use Rattle.wb_cells.specs.Readers.{seen, members, elements, objects};
 ghost use Rattle.wb_cells.specs.Shapes.{indices};
 ghost use Rattle.wb_cells.specs.WellFormed.{IsWellFormed};
 
@@ -13,7 +13,7 @@ use crate::looks;
 use std::alloc::Global;
 use std::marker::Model;
 use wb_book::Book;
-use wb_cells::{AnyIndex, AnyRect, Cell, Delta, Name, Pattern, Value};
+use wb_cells::{AnyIndex, AnyRect, Cell, Delta, Name, Pattern, Value, members_in};
 use wb_range::NoMemory;
 
 /// A workbook with changes laid over it: it looks as the workbook would after them, which stays as it is. Contracts see the
@@ -83,6 +83,21 @@ impl<'a> Layered<'a> {
     {
         let shown = self.book.seen(alloc, pattern)?;
         self.layer.over(shown, pattern)
+    }
+
+    /// The members of the sparse or associative domain of a name, ascending; `NoMemory` where none is left.
+    pub fn members(&self, alloc: Global, domain: &Name) -> Result<Vec<AnyIndex>, NoMemory>
+        ensures { IfOk result (λ v. v.items ≡ members self.now.cells domain.now) }
+    {
+        let pattern = Pattern::Members(*domain);
+        if !self.layer.touches(&pattern) {
+            return looks::listed(alloc, &mut self.book.members(domain));
+        }
+        let shown = self.seen(alloc, &pattern)?;
+        match members_in(alloc, &shown) {
+            Ok(found) => Ok(found),
+            Err(_) => Err(NoMemory),
+        }
     }
 
     /// The elements of the array of a name, each after its index, in the order of the indices; `NoMemory` where none is

@@ -5,7 +5,7 @@ ghost use Rattle.std.specs.List.{filter_map};
 ghost use Rattle.wb_cells.specs.Readers.{element_in, object_of};
 
 use std::alloc::{AllocError, Global};
-use wb_cells::{AnyIndex, Cell, Name, Value, object_of};
+use wb_cells::{AnyIndex, Cell, MemberWalk, Name, Value, object_of};
 use wb_range::NoMemory;
 
 // The element that a cell with its value tells of, after its index.
@@ -42,6 +42,17 @@ pub(crate) fn numbers(alloc: Global, elements: &[(AnyIndex, i64)]) -> Result<Vec
     let mut found = Vec::with_capacity(alloc, elements.len())?;
     for element in elements {
         found.push(element.1)?;
+    }
+    Ok(found)
+}
+
+/// The members that are left, as a list.
+pub(crate) fn listed(alloc: Global, members: &mut MemberWalk<'_>) -> Result<Vec<AnyIndex>, NoMemory>
+    ensures { IfOk result (λ v. v.items ≡ members.old) }
+{
+    let mut found = Vec::new(alloc);
+    while let Some(index) = members.next() {
+        found.push(index)?;
     }
     Ok(found)
 }

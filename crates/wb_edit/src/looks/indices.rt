@@ -14,7 +14,7 @@ use crate::footprint::FootprintBuilder;
 use crate::looks::judgements;
 use crate::looks::one_cell::read;
 use std::alloc::Global;
-use wb_cells::{AnyDomain, AnyIndex, AnyRect, Cell, DomainKind, Name, Pattern, members_in};
+use wb_cells::{AnyDomain, AnyIndex, AnyRect, Cell, DomainKind, Name, Pattern};
 use wb_layers::Layered;
 use wb_range::NoMemory;
 
@@ -50,11 +50,7 @@ pub(crate) fn listed_members(
     ensures same { IfOk result (λ v. v.items ≡ readers.members book.now.cells domain) }
     ensures ascending { IfOk result (λ v. IsStrictlySortedBy index_cmp v.items) }
 {
-    let shown = book.seen(alloc, &Pattern::Members(domain))?;
-    match members_in(alloc, &shown) {
-        Ok(found) => Ok(found),
-        Err(_) => Err(NoMemory),
-    }
+    book.members(alloc, &domain)
 }
 
 /// The indices of a sparse or associative domain.
