@@ -45,19 +45,21 @@ pub fn plan_all(
 {
     let mut footprint = FootprintBuilder::new(alloc);
     let layered = Layered::of(alloc, book);
-    let attempted = attempt_all(alloc, layered, &mut footprint, commands);
-    let Ok(read) = footprint.build() else {
-        return Err(PlanAllErr::NoMemory);
-    };
-    match attempted {
+    match attempt_all(alloc, layered, &mut footprint, commands) {
         Ok(laid) => match laid.into_delta() {
-            Ok(delta) => {
-                let count = delta.count();
-                Ok((delta, read, count))
-            }
+            Ok(delta) => match footprint.build() {
+                Ok(read) => {
+                    let count = delta.count();
+                    Ok((delta, read, count))
+                }
+                Err(_) => Err(PlanAllErr::NoMemory),
+            },
             Err(_) => Err(PlanAllErr::NoMemory),
         },
-        Err(AllErr::Refused(place, why)) => Err(PlanAllErr::Refused(place, why, read)),
+        Err(AllErr::Refused(place, why)) => match footprint.build() {
+            Ok(read) => Err(PlanAllErr::Refused(place, why, read)),
+            Err(_) => Err(PlanAllErr::NoMemory),
+        },
         Err(AllErr::NoMemory) => Err(PlanAllErr::NoMemory),
     }
 }
