@@ -96,6 +96,19 @@ def least(words, source, runs=RUNS):
     return min(seconds for seconds, _, _ in found), min(peak for _, peak, _ in found), found[-1][2]
 
 
+def least_in_turn(programs, source, runs=RUNS):
+    """The fastest run of each of some programs, which run by turns, so that a machine whose speed drifts is as fast to one as to the
+    others: the seconds of each, and what the first one printed last."""
+    fastest, told = [None] * len(programs), b""
+    for _ in range(runs):
+        for at, words in enumerate(programs):
+            seconds, _, printed = run(words, source)
+            fastest[at] = seconds if fastest[at] is None else min(fastest[at], seconds)
+            if at == 0:
+                told = printed
+    return fastest, told
+
+
 def write(folder, name, data):
     path = os.path.join(folder, name)
     with open(path, "wb") as file:
