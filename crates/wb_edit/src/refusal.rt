@@ -13,7 +13,7 @@ pub enum Refusal {
     /// E02: a literal outside its grammar, or stride 0. Given by the reading of a request alone.
     #[error("bad-literal")]
     BadLiteral,
-    /// E03 to E10, E15 and E18: the edit or the query is refused.
+    /// E03 to E10, E15, E17 and E18: the edit or the query is refused.
     #[error("{0}")]
     Refused(EditRefusal),
     /// E11: no edit of that number, or nothing in force for undo of the latest.

@@ -41,7 +41,7 @@ pub trait ChangeBlock {
         requires { at < length (entries self.now) }
         ensures { result ≡ get_or (as_changes point_index (entries self.now)) at result };
 
-    /// Whether a number is set at each index of the rectangle. It may miss that, but not the other way round.
+    /// True only where a number is set at each index of the rectangle; false tells nothing.
     fn is_whole(&self) -> bool
         ensures { result ≡ true → IsWhole (ranges_of self.now) (entries self.now) };
 

@@ -106,7 +106,7 @@ impl Elements {
         }
     }
 
-    /// Whether the elements lie by a mapping, for indices of a rank. It may miss that, but not the other way round.
+    /// True only where the elements lie by a mapping, for indices of a rank; false tells nothing.
     pub fn lies_by(&self, to: &AnyLayout, rank: u8) -> bool
         ensures { result ≡ true → self.now.1 ≡ (to.now, rank) }
     {
@@ -229,8 +229,7 @@ impl Elements {
         self.ranges
     }
 
-    /// Whether the elements are known to stand at the indices of a rectangle, one after another. It may miss that, but not the
-    /// other way round.
+    /// True only where the elements stand at the indices of a rectangle, one after another; false tells nothing.
     pub fn has_ranges(&self, ranges: &AnyRect) -> bool
         ensures same { result ≡ true → keys_of self.now.0 ≡ indices ranges.now }
         ensures ascending { IsStrictlySortedBy index_cmp (keys_of self.now.0) }
@@ -243,7 +242,7 @@ impl Elements {
         }
     }
 
-    // Whether the elements stand at the indices of a rectangle, one after another. It may miss that, for want of memory.
+    // True only where the elements stand at the indices of a rectangle, one after another; false without memory too.
     fn stand_at(&self, alloc: Global, ranges: &AnyRect) -> bool
         ensures { result ≡ true → keys_of self.now.0 ≡ indices ranges.now }
     {
@@ -253,8 +252,7 @@ impl Elements {
         }
     }
 
-    /// Notes the ranges of a rectangle, if the elements stand at its indices, one after another. It may miss that, for want of
-    /// memory.
+    /// Notes the ranges of a rectangle, if the elements stand at its indices, one after another. Without memory it notes nothing.
     pub fn note_ranges(&mut self, alloc: Global, ranges: &AnyRect)
         ensures { self.new ≡ self.old }
     {

@@ -270,7 +270,8 @@ impl<D: Device> LineLog<D> {
         self.append_ahead(alloc, lines, 0)
     }
 
-    /// The same; where the file gets longer, with so much room behind the new mark. `close` cuts off what is left of it.
+    /// Appends lines as `append` does. Where the file gets longer, it gets so much room behind the new mark; `close` cuts off what is left
+    /// of that.
     pub fn append_ahead(
         &mut self,
         alloc: Global,

@@ -456,7 +456,7 @@ fn a_desk_tells_who_did_what(rt: HostRuntime) -> Result<(), Fail> {
     Ok(())
 }
 
-// The same of a desk with a journal, which has none of it.
+// Who did what is told at a desk with a journal too, whose file has none of it.
 #[test]
 fn a_kept_desk_tells_who_did_what(rt: HostRuntime) -> Result<(), Fail> {
     let alone = Crew::alone(&rt);

@@ -69,7 +69,7 @@ impl IndexedRow {
         }
     }
 
-    /// Whether the rows are one. It may miss that, but not the other way round.
+    /// True only where the rows are one; false tells nothing.
     pub fn is_same(&self, other: &IndexedRow) -> bool
         ensures { result ≡ true → self.now ≡ other.now }
     {

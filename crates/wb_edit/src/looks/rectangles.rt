@@ -91,7 +91,7 @@ pub(crate) fn is_present(
     }
 }
 
-// Whether an array has its elements at the indices of these ranges, in their order. It may miss that.
+// True only where an array has its elements at the indices of these ranges, in their order; false tells nothing.
 fn has_ranges(book: &Layered<'_>, array: Name, on: &AnyRect) -> bool
     ensures { result ≡ true → keys_of (elements book.now.cells array) ≡ indices on.now }
 {
