@@ -19,6 +19,7 @@ pub mod Present
 pub mod Resting
 pub mod Grown
 pub mod SetBack
+pub mod StoredRuns
 pub mod Whole
 pub mod Formed
 pub mod Answered

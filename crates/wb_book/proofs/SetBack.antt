@@ -70,7 +70,7 @@ other_set xs i x c low is e = ap (λ (y : Change Cell Value). changes cell_cmp (
 
 -- ---- a loop over the changes
 
-sets-append : (xs ys : Changes) → sets (xs ++ ys) ≡ sets xs ++ sets ys
+pub sets-append : (xs ys : Changes) → sets (xs ++ ys) ≡ sets xs ++ sets ys
 sets-append [] ys = refl
 sets-append (x ∷ xs) ys =
     elim x.value as (λ v. let y : Change Cell Value = record x { value = v } in sets (y ∷ (xs ++ ys)) ≡ sets (y ∷ xs) ++ sets ys) [

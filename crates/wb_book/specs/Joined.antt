@@ -1,6 +1,6 @@
 -- The cells of a workbook from what is kept: the stored cells, and the elements of each array. That an index is in a
 -- rectangular domain follows from the stored shapes.
-use Rattle.std.specs.Prelude.{◌≡◌, ℤ, Bool, true, false, List, [], ◌∷◌, ◌++◌, map, Option, option_map, option_and_then}
+use Rattle.std.specs.Prelude.{◌≡◌, ℤ, Bool, true, false, List, [], ◌∷◌, ◌++◌, map, filter, Option, option_map, option_and_then}
 use Rattle.std.specs.List.{flat_map}
 use Rattle.std.specs.Map.{lookup}
 use Rattle.std.specs.BTreeMap.{is_at}
@@ -34,6 +34,10 @@ abbrev pub is_stored : Cell → Bool
 is_stored (In d i) = false
 is_stored (Element a i) = false
 is_stored _ = true
+
+-- the changes of stored cells
+abbrev pub stored_part : List (Change Cell Value) → List (Change Cell Value)
+stored_part xs = filter (λ x. is_stored x.cell) xs
 
 abbrev pub AllStored : List (Cell × Value) → Type 0
 AllStored [] = Unit {0}

@@ -1,7 +1,6 @@
 //! What is known of the arrays after changes, before these are made.
 
 ghost use Rattle.std.specs.Prelude.{◌≡◌, ◌<◌, ℕ, ℤ, List, [], ◌∷◌, ◌++◌, true, false, length, filter, map, Option, Some, option_and_then, IfSome, IfOk, OnOk, Err};
-ghost use Rattle.std.specs.List.{count_by};
 ghost use Rattle.selective_undo.specs.declared.Change.{Change};
 ghost use Rattle.wb_cells.specs.declared.cells.cell.Cell.{Cell as cell_type};
 ghost use Rattle.wb_cells.specs.declared.cells.value.Value.{Value as value_type};
@@ -30,6 +29,7 @@ use wb_arrays::{MoveErr, Mover};
 use wb_cells::{
     AnyIndex, AnyLayout, AnyRect, Cell, CellChange, ChangeRun, Changes, DomainKind, IndexedRow,
     KeyType, Name, Packed, RectangleChanges, RectangleNumbers, RunForm, StoredCells, Value,
+    members_before,
 };
 use wb_elements::{ChangeBlock, Elements, KeptChanges};
 use wb_range::NoMemory;
@@ -100,14 +100,15 @@ pub(crate) fn lies(cells: &StoredCells, array: &Name) -> Option<(AnyLayout, u8)>
     }
 }
 
-fn is_of_stored(change: &CellChange) -> bool
+/// Whether a change is of a stored cell.
+pub(crate) fn is_of_stored(change: &CellChange) -> bool
     ensures { result ≡ is_stored change.now.cell }
 {
     is_stored(change.as_cell())
 }
 
-// Whether the changes of a run are of stored cells: all are, or none is.
-fn are_stored(form: &RunForm) -> bool
+/// Whether the changes of a run are of stored cells: all are, or none is.
+pub(crate) fn are_stored(form: &RunForm) -> bool
     ensures all { result ≡ true → filter (λ x. is_stored x.cell) (changes_in form.now) ≡ changes_in form.now }
     ensures none { result ≡ false → filter (λ x. is_stored x.cell) (changes_in form.now) ≡ [] }
 {
@@ -131,91 +132,6 @@ fn is_row_stored(row: &IndexedRow) -> bool
         IndexedRow::Members(_) => true,
         IndexedRow::Elements(_) => false,
     }
-}
-
-// How many of the changes of a run are of stored cells.
-fn stored_in_run(run: &ChangeRun) -> usize
-    ensures { result ≡ count_by (λ x. is_stored x.cell) (changes_in run.now.form) }
-{
-    if are_stored(run.form()) { run.len() } else { 0 }
-}
-
-fn stored_one(change: &CellChange) -> usize
-    ensures { result ≡ count_by (λ x. is_stored x.cell) (change.now ∷ []) }
-{
-    if is_of_stored(change) { 1 } else { 0 }
-}
-
-// How many of the changes of runs are of stored cells.
-fn stored_in_runs(runs: &[ChangeRun]) -> usize
-    requires { length (all_changes runs.now) < 18446744073709551616 }
-    ensures { result ≡ count_by (λ x. is_stored x.cell) (all_changes runs.now) }
-{
-    let mut count = 0;
-    for run in runs {
-        count += stored_in_run(run);
-    }
-    count
-}
-
-fn stored_count(delta: &Changes) -> usize
-    ensures { result ≡ count_by (λ x. is_stored x.cell) delta.now }
-{
-    // For the proof: there are fewer than 2^64 changes.
-    let _fits = delta.len();
-    let (first, runs) = delta.parts();
-    match first {
-        None => stored_in_runs(runs),
-        Some(first) => stored_one(&first) + stored_in_runs(runs),
-    }
-}
-
-// Adds a change to the others, if it is of a stored cell.
-fn add_stored(stored: &mut Vec<CellChange>, change: &CellChange) -> Result<(), NoMemory>
-    ensures { OnOk result (stored.new.items ≡ stored.old.items ++ filter (λ x. is_stored x.cell) (change.now ∷ [])) }
-{
-    if is_of_stored(change) {
-        stored.push(*change)?;
-    }
-    Ok(())
-}
-
-// Adds the changes of a run to the others, if they are of stored cells.
-fn add_stored_run(stored: &mut Vec<CellChange>, run: &ChangeRun) -> Result<(), NoMemory>
-    ensures { OnOk result (stored.new.items ≡ stored.old.items ++ filter (λ x. is_stored x.cell) (changes_in run.now.form)) }
-{
-    if !are_stored(run.form()) {
-        return Ok(());
-    }
-    for at in 0..run.len() {
-        stored.push(run.change(at))?;
-    }
-    Ok(())
-}
-
-// Adds the changes of runs to the others, as far as they are of stored cells.
-fn add_stored_runs(stored: &mut Vec<CellChange>, runs: &[ChangeRun]) -> Result<(), NoMemory>
-    ensures { OnOk result (stored.new.items ≡ stored.old.items ++ filter (λ x. is_stored x.cell) (all_changes runs.now)) }
-{
-    for run in runs {
-        add_stored_run(stored, run)?;
-    }
-    Ok(())
-}
-
-/// The changes of stored cells among these.
-pub(crate) fn stored_changes(alloc: Global, delta: &Changes) -> Result<Vec<CellChange>, NoMemory>
-    ensures { IfOk result (λ v. v.items ≡ filter (λ x. is_stored x.cell) delta.now) }
-{
-    let mut stored = Vec::with_capacity(alloc, stored_count(delta))?;
-    let (first, runs) = delta.parts();
-    let Some(first) = first else {
-        add_stored_runs(&mut stored, runs)?;
-        return Ok(stored);
-    };
-    add_stored(&mut stored, &first)?;
-    add_stored_runs(&mut stored, runs)?;
-    Ok(stored)
 }
 
 fn is_stored(cell: &Cell) -> bool
@@ -470,6 +386,24 @@ fn form_before(
     }
 }
 
+// The changes that set the cells of a run to what they are now, as a run, also where they are members; `None` where they are to
+// be told one by one.
+fn run_before(
+    alloc: Global,
+    cells: &StoredCells,
+    arrays: &BTreeMap<Name, Elements>,
+    form: &RunForm,
+) -> Result<Option<RunForm>, NoMemory>
+    ensures { IfOk result (λ o. IfSome o (λ f.
+        changes_in f ≡ map (with_answer (answer (stored_in cells.now.entries) (element_in arrays.now.entries))) (changes_in form.now))) }
+{
+    match members_before(alloc, cells, form) {
+        Ok(Some(before)) => Ok(Some(before)),
+        Ok(None) => form_before(alloc, cells, arrays, form),
+        Err(why) => Err(why),
+    }
+}
+
 // Adds the changes that set the cells of a run to what they are now, one by one.
 fn add_each_before(
     alloc: Global,
@@ -498,7 +432,7 @@ fn add_run_before(
     ensures { OnOk result (before.new ≡ before.old ++
         map (with_answer (answer (stored_in cells.now.entries) (element_in arrays.now.entries))) (changes_in run.now.form)) }
 {
-    match form_before(alloc, cells, arrays, run.form()) {
+    match run_before(alloc, cells, arrays, run.form()) {
         Ok(Some(form)) => before.push_run(alloc, form),
         Ok(None) => add_each_before(alloc, cells, arrays, run, before),
         Err(why) => Err(why),

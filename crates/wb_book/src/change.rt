@@ -1,13 +1,13 @@
 //! Changes are made whole or not at all.
 
 ghost use Rattle.std.specs.Prelude.{◌≡◌, ℕ, ℤ, ◌&&◌, List, [], ◌∷◌, ◌++◌, Option, Some, None, false, true, not, cond, is_some, IsSome, IfOk, OnOk, OnErr, Err};
-ghost use Rattle.std.specs.List.{All, count_by};
+ghost use Rattle.std.specs.List.{All};
 ghost use Rattle.std.specs.FinMap as map;
 ghost use Rattle.std.specs.Map.{keys_of};
 ghost use Rattle.std.specs.List.Sorted.{IsStrictlySortedBy};
 ghost use Rattle.std.specs.Cmp.Lexicographic.{slice_cmp};
 ghost use Rattle.std.specs.Ordering.{nat_cmp, eq_by_cmp};
-ghost use Rattle.selective_undo.specs.Changes.{apply, inverse, sets, clears, changes, AllOnce, HasRoom};
+ghost use Rattle.selective_undo.specs.Changes.{apply, sets, clears, changes, AllOnce, HasRoom};
 ghost use Rattle.wb_cells.specs.declared.cells.cell.Cell.{Cell as cell_type};
 ghost use Rattle.wb_cells.specs.declared.cells.cell.Cell.TheVariants.{Object};
 ghost use Rattle.wb_cells.specs.declared.cells.value.Value.{Value as value_type};
@@ -15,17 +15,16 @@ ghost use Rattle.wb_cells.specs.declared.values.index.Index.{Index};
 ghost use Rattle.wb_cells.specs.Stored.{FitsChange};
 ghost use Rattle.wb_cells.specs.Cells.{Stored, cell_cmp, state_of, is_same_name};
 ghost use Rattle.wb_cells.specs.WellFormed.{IsWellFormed};
-ghost use Rattle.wb_book.specs.Joined.{stored_in, element_in, is_stored};
+ghost use Rattle.wb_book.specs.Joined.{stored_in, element_in, stored_part};
 ghost use Rattle.wb_book.specs.After.{lies_at, AreFormed, AreAfter, is_array};
 ghost use Rattle.wb_book.specs.Kept.{Pieced, array_in};
 ghost use Rattle.wb_book.specs.Moved.{put_over};
 ghost use Rattle.wb_book.specs.Shelf.{cells_of, IsShelf};
 
 use crate::groups::Group;
-use crate::{after, groups, keep, moving};
+use crate::{after, groups, keep, moving, storing};
 use std::alloc::Global;
 use std::collections::BTreeMap;
-use std::slice;
 use wb_arrays::{MoveErr, Mover};
 use wb_cells::{AnyIndex, AnyLayout, Cell, CellChange, Changes, Name, StoredCells, Value, store};
 use wb_elements::Elements;
@@ -143,30 +142,6 @@ fn drop_gone(cells: &StoredCells, arrays: &mut BTreeMap<Name, Elements>, stored:
     let _ = arrays.len();
 }
 
-// Sets the cell of a change that gives it a value.
-fn set_one(cells: &mut StoredCells, change: &CellChange) -> Result<(), NoMemory>
-    ensures others { (c : cell_type) → changes cell_cmp (sets (change.now ∷ [])) c ≡ false → map.get (state_of cells.new) c ≡ map.get (state_of cells.old) c }
-    ensures stays { (c : cell_type) → IsSome (map.get (state_of cells.old) c) → IsSome (map.get (state_of cells.new) c) }
-    ensures set { OnOk result (state_of cells.new ≡ apply (sets (change.now ∷ [])) (state_of cells.old)) }
-{
-    match change.value() {
-        Some(_) => store::set_present(cells, slice::from_ref(change)),
-        None => Ok(()),
-    }
-}
-
-/// Sets the cells that the changes give a value, and touches no other. It may stop midway.
-fn set_given(cells: &mut StoredCells, stored: &[CellChange]) -> Result<(), NoMemory>
-    ensures others { (c : cell_type) → changes cell_cmp (sets stored.now) c ≡ false → map.get (state_of cells.new) c ≡ map.get (state_of cells.old) c }
-    ensures stays { (c : cell_type) → IsSome (map.get (state_of cells.old) c) → IsSome (map.get (state_of cells.new) c) }
-    ensures set { OnOk result (state_of cells.new ≡ apply (sets stored.now) (state_of cells.old)) }
-{
-    for change in stored {
-        set_one(cells, change)?;
-    }
-    Ok(())
-}
-
 /// What can fail of changes: sets the stored cells that they give a value, puts an array of each new name, and makes the
 /// arrays that are others afterwards. It may stop midway.
 fn prepare<V: Mover>(
@@ -174,34 +149,35 @@ fn prepare<V: Mover>(
     cells: &mut StoredCells,
     arrays: &mut BTreeMap<Name, Elements>,
     groups: &BTreeMap<Name, Group>,
-    stored: &[CellChange],
+    all: &Changes,
+    alone: &[CellChange],
     mover: &V,
 ) -> Result<Vec<(Name, Elements)>, MoveErr>
     // Each element that the changes leave stands at an index of its array's form, once the cells are set.
-    requires { (ready : Stored) (grown : List (List ℕ × Pieced)) → state_of ready ≡ apply (sets stored.now) (state_of cells.old) →
+    requires { (ready : Stored) (grown : List (List ℕ × Pieced)) → state_of ready ≡ apply (sets (stored_part all.now)) (state_of cells.old) →
         ((b : List ℕ) (i : Index) → element_in grown b i ≡ element_in arrays.old.entries b i) →
         AreFormed (lies_at (stored_in ready.entries)) grown groups.now.entries }
 
     // What stays, also where it stops midway.
-    ensures others_cells { (c : cell_type) → changes cell_cmp (sets stored.now) c ≡ false → map.get (state_of cells.new) c ≡ map.get (state_of cells.old) c }
+    ensures others_cells { (c : cell_type) → changes cell_cmp (sets (stored_part all.now)) c ≡ false → map.get (state_of cells.new) c ≡ map.get (state_of cells.old) c }
     ensures stays_cells { (c : cell_type) → IsSome (map.get (state_of cells.old) c) → IsSome (map.get (state_of cells.new) c) }
-    ensures others { (b : List ℕ) → changes cell_cmp stored.now (Object b) ≡ false → array_in arrays.new.entries b ≡ array_in arrays.old.entries b }
+    ensures others { (b : List ℕ) → changes cell_cmp alone.now (Object b) ≡ false → array_in arrays.new.entries b ≡ array_in arrays.old.entries b }
     ensures stays { (b : List ℕ) (p : Pieced) → array_in arrays.old.entries b ≡ Some p → array_in arrays.new.entries b ≡ Some p }
     ensures elements { (b : List ℕ) (i : Index) → element_in arrays.new.entries b i ≡ element_in arrays.old.entries b i }
 
     // What is set, put and made at the end.
-    ensures set { OnOk result (state_of cells.new ≡ apply (sets stored.now) (state_of cells.old)) }
-    ensures there { OnOk result ((b : List ℕ) → changes cell_cmp stored.now (Object b) ≡ true → is_array (stored_in cells.new.entries (Object b)) ≡ true →
+    ensures set { OnOk result (state_of cells.new ≡ apply (sets (stored_part all.now)) (state_of cells.old)) }
+    ensures there { OnOk result ((b : List ℕ) → changes cell_cmp alone.now (Object b) ≡ true → is_array (stored_in cells.new.entries (Object b)) ≡ true →
         IsSome (array_in arrays.new.entries b)) }
     ensures built { IfOk result (λ v. AreAfter (lies_at (stored_in cells.new.entries)) arrays.new.entries groups.now.entries v.items) }
 
     // Only by a mover that may lack threads does it fail for want of one.
     ensures no_thread { result ≡ Err MoveErr.NoThread → V.may_lack_threads mover.now }
 {
-    if set_given(cells, stored).is_err() {
+    if storing::set_given(cells, all).is_err() {
         return Err(MoveErr::NoMemory);
     }
-    if put_new(alloc, cells, arrays, stored).is_err() {
+    if put_new(alloc, cells, arrays, alone).is_err() {
         return Err(MoveErr::NoMemory);
     }
     after::build_arrays(alloc, cells, arrays, groups, mover)
@@ -212,68 +188,30 @@ fn prepare<V: Mover>(
 fn finish(
     cells: &mut StoredCells,
     arrays: &mut BTreeMap<Name, Elements>,
-    stored: &[CellChange],
+    all: &Changes,
+    alone: &[CellChange],
     built: Vec<(Name, Elements)>,
 )
     requires { IsStrictlySortedBy (slice_cmp nat_cmp) (keys_of built.items) }
-    ensures cells { state_of cells.new ≡ apply (clears stored.now) (state_of cells.old) }
+    ensures cells { state_of cells.new ≡ apply (clears (stored_part all.now)) (state_of cells.old) }
     ensures arrays { (b : List ℕ) → array_in arrays.new.entries b ≡ cond
-        (changes cell_cmp stored.now (Object b) && not (is_array (stored_in cells.new.entries (Object b)))) None
+        (changes cell_cmp alone.now (Object b) && not (is_array (stored_in cells.new.entries (Object b)))) None
         (put_over (array_in arrays.old.entries b) (array_in built.items b)) }
     ensures ascending_cells { IsStrictlySortedBy cell_cmp (keys_of cells.new.entries) }
     ensures ascending { IsStrictlySortedBy (slice_cmp nat_cmp) (keys_of arrays.new.entries) }
 {
-    store::clear_absent(cells, stored);
+    storing::clear_given(cells, all);
     moving::put_in(arrays, built);
-    drop_gone(cells, arrays, stored);
+    drop_gone(cells, arrays, alone);
     // For the proof: the cells ascend.
     cells.ascend();
-}
-
-fn given_count(stored: &[CellChange]) -> usize
-    ensures { result ≡ count_by (λ x. is_some x.value) stored.now }
-{
-    stored.iter().filter(|x| x.value().is_some()).count()
-}
-
-// Adds the change that sets a cell to what it is now, where a change gives it a value.
-fn add_before(
-    cells: &StoredCells,
-    change: &CellChange,
-    before: &mut Vec<CellChange>,
-) -> Result<(), NoMemory>
-    ensures { OnOk result (before.new.items ≡ before.old.items ++ inverse (sets (change.now ∷ [])) (state_of cells.now)) }
-{
-    match change.value() {
-        Some(_) => {
-            let cell = change.cell();
-            let value = cells.get(&cell);
-            Ok(before.push(CellChange::new(cell, value))?)
-        }
-        None => Ok(()),
-    }
-}
-
-/// The changes that set the cells that changes give a value to what they are now.
-fn given_before(
-    alloc: Global,
-    cells: &StoredCells,
-    stored: &[CellChange],
-) -> Result<Vec<CellChange>, NoMemory>
-    ensures { IfOk result (λ v. v.items ≡ inverse (sets stored.now) (state_of cells.now)) }
-{
-    let mut before = Vec::with_capacity(alloc, given_count(stored))?;
-    for change in stored {
-        add_before(cells, change, &mut before)?;
-    }
-    Ok(before)
 }
 
 /// Sets the stored cells back, and drops the arrays that were put.
 fn take_back(
     cells: &mut StoredCells,
     arrays: &mut BTreeMap<Name, Elements>,
-    stored: &[CellChange],
+    alone: &[CellChange],
     before: &[CellChange],
 )
     requires once { AllOnce cell_cmp before.now }
@@ -281,12 +219,12 @@ fn take_back(
     requires fits { All FitsChange before.now }
     ensures cells { state_of cells.new ≡ apply before.now (state_of cells.old) }
     ensures arrays { (b : List ℕ) → array_in arrays.new.entries b ≡ cond
-        (changes cell_cmp stored.now (Object b) && not (is_array (stored_in cells.new.entries (Object b)))) None (array_in arrays.old.entries b) }
+        (changes cell_cmp alone.now (Object b) && not (is_array (stored_in cells.new.entries (Object b)))) None (array_in arrays.old.entries b) }
     ensures ascending_cells { IsStrictlySortedBy cell_cmp (keys_of cells.new.entries) }
     ensures ascending { IsStrictlySortedBy (slice_cmp nat_cmp) (keys_of arrays.new.entries) }
 {
     store::put_back(cells, before);
-    drop_gone(cells, arrays, stored);
+    drop_gone(cells, arrays, alone);
     // For the proof: the cells ascend.
     cells.ascend();
 }
@@ -344,24 +282,24 @@ fn change_any<V: Mover>(
         keep::set_all(arrays, delta);
         return Ok(());
     }
-    let Ok(stored) = after::stored_changes(alloc, delta) else {
+    let Ok(lone) = storing::lone_changes(alloc, delta) else {
         return Err(MoveErr::NoMemory);
     };
-    let changed = stored.as_slice();
-    let Ok(before) = given_before(alloc, cells, changed) else {
+    let alone = lone.as_slice();
+    let Ok(before) = storing::given_before(alloc, cells, delta) else {
         return Err(MoveErr::NoMemory);
     };
     let back = before.as_slice();
     let Ok(groups) = groups::group_changes(alloc, cells, arrays, delta) else {
         return Err(MoveErr::NoMemory);
     };
-    match prepare(alloc, cells, arrays, &groups, changed, mover) {
+    match prepare(alloc, cells, arrays, &groups, delta, alone, mover) {
         Ok(built) => {
-            finish(cells, arrays, changed, built);
+            finish(cells, arrays, delta, alone, built);
             Ok(())
         }
         Err(why) => {
-            take_back(cells, arrays, changed, back);
+            take_back(cells, arrays, alone, back);
             Err(why)
         }
     }

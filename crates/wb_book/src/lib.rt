@@ -8,5 +8,6 @@ mod keep;
 mod looks;
 mod moving;
 mod shelf;
+mod storing;
 
 pub use crate::shelf::Book;

@@ -24,3 +24,4 @@ pub mod Lying
 pub mod TwoRanks
 pub mod Counted
 pub mod Rectangles
+pub mod MemberRuns

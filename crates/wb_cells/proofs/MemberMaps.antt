@@ -16,7 +16,7 @@ use Rattle.wb_cells.proofs.Parts.{same_name}
 abbrev pub IsPut : List (Name × List Index) → List (Name × List Index) → Name → Option (List Index) → Type 0
 IsPut before after d o = (e : Name) → indices_in after e ≡ cond (is_at (slice_cmp nat_cmp d) e) o (indices_in before e)
 
-turned : (d e : Name) → is_at (slice_cmp nat_cmp d) e ≡ is_same_name e d
+pub turned : (d e : Name) → is_at (slice_cmp nat_cmp d) e ≡ is_same_name e d
 turned d e = (eq_by_cmp_equiv nat_list_cmp_total).symm d e
 
 put_at : (before after : List (Name × List Index)) (d : Name) (o : Option (List Index)) → IsPut before after d o → (e : Name) (j : Index) →

@@ -41,7 +41,7 @@ abbrev pub is_middle : Cell → Bool
 is_middle (Member d i) = true
 is_middle _ = false
 
-not_middle : (c : Cell) → is_low c ≡ true → is_middle c ≡ false
+pub not_middle : (c : Cell) → is_low c ≡ true → is_middle c ≡ false
 not_middle (Object n) h = refl
 not_middle (Shape n) h = refl
 not_middle (In n i) h = refl
@@ -51,7 +51,7 @@ not_middle (Use d n) h = refl
 not_middle (Implicit n) h = refl
 not_middle (Element n i) h = refl
 
-high_not_middle : (c : Cell) → is_high c ≡ true → is_middle c ≡ false
+pub high_not_middle : (c : Cell) → is_high c ≡ true → is_middle c ≡ false
 high_not_middle (Object n) h = refl
 high_not_middle (Shape n) h = refl
 high_not_middle (In n i) h = refl
@@ -61,7 +61,7 @@ high_not_middle (Use d n) h = refl
 high_not_middle (Implicit n) h = refl
 high_not_middle (Element n i) h = refl
 
-other : (d : Name) (j : Index) (c : Cell) → is_middle c ≡ false → is_eq (cell_cmp c (Member d j)) ≡ false
+pub other : (d : Name) (j : Index) (c : Cell) → is_middle c ≡ false → is_eq (cell_cmp c (Member d j)) ≡ false
 other d j (Object n) h = refl
 other d j (Shape n) h = refl
 other d j (In n i) h = refl

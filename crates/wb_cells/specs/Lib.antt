@@ -15,4 +15,5 @@ pub mod MemberWalks
 pub mod Stored
 pub mod Locales
 pub mod Readers
+pub mod MemberRuns
 pub mod Families

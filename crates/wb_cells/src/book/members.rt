@@ -1,6 +1,6 @@
 //! The members of sparse and associative domains, in a set for each domain.
 
-ghost use Rattle.std.specs.Prelude.{◌≡◌, ◌||◌, ◌&&◌, not, List, ℕ, [], true, false, None, Some, length, slice_get, unwrap_or, IfOk, OnOk, OnErr};
+ghost use Rattle.std.specs.Prelude.{◌≡◌, ◌||◌, ◌&&◌, not, cond, List, ℕ, [], true, false, None, Some, length, slice_get, unwrap_or, IfOk, OnOk, OnErr};
 ghost use Rattle.std.specs.BTreeMap.{IsOrdered};
 ghost use Rattle.std.specs.Cmp.Lexicographic.{slice_cmp};
 ghost use Rattle.std.specs.Ordering.{nat_cmp};
@@ -100,6 +100,16 @@ pub(crate) fn take_member(sets: &mut BTreeMap<Name, MemberSet>, domain: &Name, i
     if take_one(sets, domain, index) {
         sets.remove(domain);
     }
+}
+
+/// Takes all members of a domain out. It takes no memory.
+pub(crate) fn drop_members(sets: &mut BTreeMap<Name, MemberSet>, domain: &Name)
+    requires { AscendEach sets.old.entries }
+    ensures dropped { (d : List ℕ) → indices_in sets.new.entries d ≡ cond (is_same_name d domain.now) None (indices_in sets.old.entries d) }
+    ensures ordered { IsOrdered (slice_cmp nat_cmp) sets.new }
+    ensures each { AscendEach sets.new.entries }
+{
+    sets.remove(domain);
 }
 
 /// How many members a domain has.

@@ -2,6 +2,7 @@
 
 pub(crate) mod families;
 pub(crate) mod locales;
+pub(crate) mod member_runs;
 pub(crate) mod member_set;
 pub(crate) mod member_walk;
 pub(crate) mod members;

@@ -14,9 +14,12 @@ ghost use Rattle.wb_cells.specs.declared.values.index.Index.{Index as any_index}
 ghost use Rattle.wb_cells.specs.Cells.{cell_cmp, is_same_name, is_same_index, state_of};
 ghost use Rattle.wb_cells.specs.Stored.{Fits, AscendEach, is_low, member_of, is_member, value_in, member_cells};
 ghost use Rattle.wb_cells.specs.WellFormed.{present_if};
+ghost use Rattle.wb_cells.specs.Readers.{members};
+ghost use Rattle.wb_cells.specs.MemberRuns.{members_to};
+ghost use Rattle.selective_undo.specs.Changes.{apply, clears};
 
 use crate::book::member_set::MemberSet;
-use crate::book::members::{is_member, put_member, take_member};
+use crate::book::members::{drop_members, is_member, put_member, take_member};
 use crate::cells::cell::Cell;
 use crate::cells::value::Value;
 use crate::values::index::AnyIndex;
@@ -235,6 +238,13 @@ impl StoredCells {
             return take(&mut self.low, cell);
         }
         take(&mut self.high, cell)
+    }
+
+    /// Clears all members of a domain. It takes no memory.
+    pub(crate) fn remove_members(&mut self, domain: &Name)
+        ensures { state_of self.new ≡ apply (clears (members_to domain.now None (members (state_of self.old) domain.now))) (state_of self.old) }
+    {
+        drop_members(&mut self.members, domain);
     }
 
     /// Computes nothing. Callers learn that the cells ascend.

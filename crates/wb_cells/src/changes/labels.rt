@@ -172,7 +172,7 @@ fn indexed_label(row: &IndexedRow, change: &IndexedChange) -> Option<(Label, Opt
 
 impl LabelChanges {
     // No changes of cells of a row.
-    fn new(alloc: Global, row: IndexedRow) -> LabelChanges
+    pub(crate) fn new(alloc: Global, row: IndexedRow) -> LabelChanges
         ensures { result ≡ (row, []) }
     {
         LabelChanges {
@@ -183,7 +183,7 @@ impl LabelChanges {
     }
 
     // Adds a label with its number, or none, behind the others, if its bytes have a place.
-    fn push(&mut self, label: &Label, number: Option<i64>) -> Result<bool, NoMemory>
+    pub(crate) fn push(&mut self, label: &Label, number: Option<i64>) -> Result<bool, NoMemory>
         ensures added { result ≡ Ok true → self.new ≡ (self.old.0, self.old.1 ++ (label.now, number) ∷ []) }
         ensures other { result ≡ Ok false → self.new ≡ self.old }
         ensures err { OnErr result (self.new ≡ self.old) }
@@ -209,7 +209,7 @@ impl LabelChanges {
     }
 
     // The label at a place, with its number, or none.
-    fn entry(&self, at: usize) -> (Label, Option<i64>)
+    pub(crate) fn entry(&self, at: usize) -> (Label, Option<i64>)
         requires { at < length self.now.1 }
         ensures { slice_get self.now.1 at ≡ Some result }
     {

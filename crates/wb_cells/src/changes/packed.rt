@@ -39,7 +39,7 @@ fn entry_of<const R: usize>(
 }
 
 // The index that a point of rank `R` is.
-fn index_at<const R: usize>(point: &[i64; R]) -> AnyIndex
+pub(crate) fn index_at<const R: usize>(point: &[i64; R]) -> AnyIndex
     requires { R ≤ 3 }
     ensures { result ≡ at_point point.now }
 {

@@ -10,5 +10,5 @@ use Rattle.wb_book.proofs.change.finish.Goals as goal
 pub returns-clause-arrays : goal.returns-clause-arrays
 returns-clause-arrays c = λ b.
     c.drop_gone.ensures.arrays b
-    ∙ ap (λ (o : Option Pieced). cond (changes cell_cmp c.args.stored.now (Object b) && not
-    (is_array (stored_in c.clear_absent.new.cells.entries (Object b)))) None o) (c.put_in.ensures.arrays b)
+    ∙ ap (λ (o : Option Pieced). cond (changes cell_cmp c.args.alone.now (Object b) && not
+    (is_array (stored_in c.clear_given.new.cells.entries (Object b)))) None o) (c.put_in.ensures.arrays b)

@@ -1,0 +1,8 @@
+use Rattle.std.proofs.Common.{◌≡◌, take}
+use Rattle.selective_undo.specs.Changes.{apply, clears}
+use Rattle.wb_cells.specs.Cells.{state_of}
+use Rattle.wb_cells.specs.Runs.{changes_in}
+use Rattle.wb_book.proofs.storing.clear_each.Given as goal
+
+abbrev pub invariant-loop-at : goal.invariant-loop-at
+invariant-loop-at l = state_of l.cells ≡ apply (clears (take l.at (changes_in l.run.form))) (state_of l.fn.cells)

@@ -1,0 +1,285 @@
+//! Changes of the stored cells, made run by run. No list is made of them.
+
+ghost use Rattle.std.specs.Prelude.{◌≡◌, ◌||◌, ℕ, List, [], ◌∷◌, ◌++◌, false, IfOk, OnOk, IsSome};
+ghost use Rattle.std.specs.FinMap as map;
+ghost use Rattle.selective_undo.specs.Changes.{apply, inverse, sets, clears, changes};
+ghost use Rattle.wb_cells.specs.declared.cells.cell.Cell.{Cell as cell_type};
+ghost use Rattle.wb_cells.specs.Cells.{cell_cmp, state_of};
+ghost use Rattle.wb_cells.specs.Runs.{changes_in, all_changes};
+ghost use Rattle.wb_cells.specs.declared.cells.cell.Cell.TheVariants.{Object};
+ghost use Rattle.wb_book.specs.Joined.{stored_part};
+
+use crate::after::{are_stored, is_of_stored};
+use std::alloc::Global;
+use std::slice;
+use wb_cells::{CellChange, ChangeRun, Changes, RunForm, StoredCells, clear_whole, store};
+use wb_range::NoMemory;
+
+// ---- set
+
+// Sets the cell of a change that gives it a value.
+fn set_one(cells: &mut StoredCells, change: &CellChange) -> Result<(), NoMemory>
+    ensures others { (c : cell_type) → changes cell_cmp (sets (change.now ∷ [])) c ≡ false → map.get (state_of cells.new) c ≡ map.get (state_of cells.old) c }
+    ensures stays { (c : cell_type) → IsSome (map.get (state_of cells.old) c) → IsSome (map.get (state_of cells.new) c) }
+    ensures set { OnOk result (state_of cells.new ≡ apply (sets (change.now ∷ [])) (state_of cells.old)) }
+{
+    match change.value() {
+        Some(_) => store::set_present(cells, slice::from_ref(change)),
+        None => Ok(()),
+    }
+}
+
+// Sets the cell of a change that gives it a value, if it is stored.
+fn set_lone(cells: &mut StoredCells, change: &CellChange) -> Result<(), NoMemory>
+    ensures others { (c : cell_type) → changes cell_cmp (sets (stored_part (change.now ∷ []))) c ≡ false → map.get (state_of cells.new) c ≡ map.get (state_of cells.old) c }
+    ensures stays { (c : cell_type) → IsSome (map.get (state_of cells.old) c) → IsSome (map.get (state_of cells.new) c) }
+    ensures set { OnOk result (state_of cells.new ≡ apply (sets (stored_part (change.now ∷ []))) (state_of cells.old)) }
+{
+    if is_of_stored(change) {
+        return set_one(cells, change);
+    }
+    Ok(())
+}
+
+// Sets the cells that the changes of a run give a value, one by one.
+fn set_each(cells: &mut StoredCells, run: &ChangeRun) -> Result<(), NoMemory>
+    ensures others { (c : cell_type) → changes cell_cmp (sets (changes_in run.now.form)) c ≡ false → map.get (state_of cells.new) c ≡ map.get (state_of cells.old) c }
+    ensures stays { (c : cell_type) → IsSome (map.get (state_of cells.old) c) → IsSome (map.get (state_of cells.new) c) }
+    ensures set { OnOk result (state_of cells.new ≡ apply (sets (changes_in run.now.form)) (state_of cells.old)) }
+{
+    for at in 0..run.len() {
+        set_one(cells, &run.change(at))?;
+    }
+    Ok(())
+}
+
+// Sets the cells that the changes of a run give a value, if they are stored.
+fn set_run(cells: &mut StoredCells, run: &ChangeRun) -> Result<(), NoMemory>
+    ensures others { (c : cell_type) → changes cell_cmp (sets (stored_part (changes_in run.now.form))) c ≡ false → map.get (state_of cells.new) c ≡ map.get (state_of cells.old) c }
+    ensures stays { (c : cell_type) → IsSome (map.get (state_of cells.old) c) → IsSome (map.get (state_of cells.new) c) }
+    ensures set { OnOk result (state_of cells.new ≡ apply (sets (stored_part (changes_in run.now.form))) (state_of cells.old)) }
+{
+    if !are_stored(run.form()) {
+        return Ok(());
+    }
+    set_each(cells, run)
+}
+
+// Sets the cells that the changes of runs give a value, as far as they are stored.
+fn set_runs(cells: &mut StoredCells, runs: &[ChangeRun]) -> Result<(), NoMemory>
+    ensures others { (c : cell_type) → changes cell_cmp (sets (stored_part (all_changes runs.now))) c ≡ false → map.get (state_of cells.new) c ≡ map.get (state_of cells.old) c }
+    ensures stays { (c : cell_type) → IsSome (map.get (state_of cells.old) c) → IsSome (map.get (state_of cells.new) c) }
+    ensures set { OnOk result (state_of cells.new ≡ apply (sets (stored_part (all_changes runs.now))) (state_of cells.old)) }
+{
+    for run in runs {
+        set_run(cells, run)?;
+    }
+    Ok(())
+}
+
+/// Sets the stored cells that the changes give a value, and touches no other. It may stop midway.
+pub(crate) fn set_given(cells: &mut StoredCells, delta: &Changes) -> Result<(), NoMemory>
+    ensures others { (c : cell_type) → changes cell_cmp (sets (stored_part delta.now)) c ≡ false → map.get (state_of cells.new) c ≡ map.get (state_of cells.old) c }
+    ensures stays { (c : cell_type) → IsSome (map.get (state_of cells.old) c) → IsSome (map.get (state_of cells.new) c) }
+    ensures set { OnOk result (state_of cells.new ≡ apply (sets (stored_part delta.now)) (state_of cells.old)) }
+{
+    let (first, runs) = delta.parts();
+    let Some(first) = first else {
+        return set_runs(cells, runs);
+    };
+    set_lone(cells, &first)?;
+    set_runs(cells, runs)
+}
+
+// ---- clear
+
+// Clears the cells that the changes of a run give no value, one by one.
+fn clear_each(cells: &mut StoredCells, run: &ChangeRun)
+    ensures { state_of cells.new ≡ apply (clears (changes_in run.now.form)) (state_of cells.old) }
+{
+    for at in 0..run.len() {
+        store::clear_absent(cells, slice::from_ref(&run.change(at)));
+    }
+}
+
+// Clears the cells that the changes of a run give no value, if they are stored: all members of a domain at once.
+fn clear_run(cells: &mut StoredCells, run: &ChangeRun)
+    ensures { state_of cells.new ≡ apply (clears (stored_part (changes_in run.now.form))) (state_of cells.old) }
+{
+    if !are_stored(run.form()) {
+        return;
+    }
+    if clear_whole(cells, run.form()) {
+        return;
+    }
+    clear_each(cells, run);
+}
+
+// Clears the cells that the changes of runs give no value, as far as they are stored.
+fn clear_runs(cells: &mut StoredCells, runs: &[ChangeRun])
+    ensures { state_of cells.new ≡ apply (clears (stored_part (all_changes runs.now))) (state_of cells.old) }
+{
+    for run in runs {
+        clear_run(cells, run);
+    }
+}
+
+// Clears the cell of a change that gives it no value, if it is stored.
+fn clear_lone(cells: &mut StoredCells, change: &CellChange)
+    ensures { state_of cells.new ≡ apply (clears (stored_part (change.now ∷ []))) (state_of cells.old) }
+{
+    if is_of_stored(change) {
+        store::clear_absent(cells, slice::from_ref(change));
+    }
+}
+
+/// Clears the stored cells that the changes give no value.
+pub(crate) fn clear_given(cells: &mut StoredCells, delta: &Changes)
+    ensures { state_of cells.new ≡ apply (clears (stored_part delta.now)) (state_of cells.old) }
+{
+    let (first, runs) = delta.parts();
+    let Some(first) = first else {
+        return clear_runs(cells, runs);
+    };
+    clear_lone(cells, &first);
+    clear_runs(cells, runs);
+}
+
+// ---- what was there
+
+// Adds the change that sets a cell to what it is now, where a change gives it a value.
+fn add_before(
+    cells: &StoredCells,
+    change: &CellChange,
+    before: &mut Vec<CellChange>,
+) -> Result<(), NoMemory>
+    ensures { OnOk result (before.new.items ≡ before.old.items ++ inverse (sets (change.now ∷ [])) (state_of cells.now)) }
+{
+    match change.value() {
+        Some(_) => {
+            let cell = change.cell();
+            let value = cells.get(&cell);
+            Ok(before.push(CellChange::new(cell, value))?)
+        }
+        None => Ok(()),
+    }
+}
+
+// Adds the change that sets a cell to what it is now, where a change gives it a value and it is stored.
+fn add_lone_before(
+    cells: &StoredCells,
+    change: &CellChange,
+    before: &mut Vec<CellChange>,
+) -> Result<(), NoMemory>
+    ensures { OnOk result (before.new.items ≡ before.old.items ++ inverse (sets (stored_part (change.now ∷ []))) (state_of cells.now)) }
+{
+    if is_of_stored(change) {
+        return add_before(cells, change, before);
+    }
+    Ok(())
+}
+
+// Adds the changes that set the cells to which those of a run give a value to what they are now, one by one.
+fn add_each_before(
+    cells: &StoredCells,
+    run: &ChangeRun,
+    before: &mut Vec<CellChange>,
+) -> Result<(), NoMemory>
+    ensures { OnOk result (before.new.items ≡ before.old.items ++ inverse (sets (changes_in run.now.form)) (state_of cells.now)) }
+{
+    for at in 0..run.len() {
+        add_before(cells, &run.change(at), before)?;
+    }
+    Ok(())
+}
+
+// Adds the changes that set the cells to which those of a run give a value to what they are now, if they are stored.
+fn add_run_before(
+    cells: &StoredCells,
+    run: &ChangeRun,
+    before: &mut Vec<CellChange>,
+) -> Result<(), NoMemory>
+    ensures { OnOk result (before.new.items ≡ before.old.items ++ inverse (sets (stored_part (changes_in run.now.form))) (state_of cells.now)) }
+{
+    if !are_stored(run.form()) {
+        return Ok(());
+    }
+    add_each_before(cells, run, before)
+}
+
+// Adds the changes that set the cells to which those of runs give a value to what they are now, as far as they are stored.
+fn add_runs_before(
+    cells: &StoredCells,
+    runs: &[ChangeRun],
+    before: &mut Vec<CellChange>,
+) -> Result<(), NoMemory>
+    ensures { OnOk result (before.new.items ≡ before.old.items ++ inverse (sets (stored_part (all_changes runs.now))) (state_of cells.now)) }
+{
+    for run in runs {
+        add_run_before(cells, run, before)?;
+    }
+    Ok(())
+}
+
+/// The changes that set the stored cells to which changes give a value to what they are now.
+pub(crate) fn given_before(
+    alloc: Global,
+    cells: &StoredCells,
+    delta: &Changes,
+) -> Result<Vec<CellChange>, NoMemory>
+    ensures { IfOk result (λ v. v.items ≡ inverse (sets (stored_part delta.now)) (state_of cells.now)) }
+{
+    let mut before = Vec::new(alloc);
+    let (first, runs) = delta.parts();
+    let Some(first) = first else {
+        add_runs_before(cells, runs, &mut before)?;
+        return Ok(before);
+    };
+    add_lone_before(cells, &first, &mut before)?;
+    add_runs_before(cells, runs, &mut before)?;
+    Ok(before)
+}
+
+// ---- objects
+
+// Adds the change of a run, if it stands alone.
+fn add_alone(form: &RunForm, alone: &mut Vec<CellChange>) -> Result<(), NoMemory>
+    ensures { OnOk result ((b : List ℕ) → changes cell_cmp alone.new.items (Object b) ≡
+        changes cell_cmp alone.old.items (Object b) || changes cell_cmp (changes_in form.now) (Object b)) }
+{
+    match form {
+        RunForm::One(change) => Ok(alone.push(*change)?),
+        RunForm::Rank1(_) => Ok(()),
+        RunForm::Rank2(_) => Ok(()),
+        RunForm::Rank3(_) => Ok(()),
+        RunForm::Labels(_) => Ok(()),
+        RunForm::Rectangle(_) => Ok(()),
+        RunForm::Numbers(_) => Ok(()),
+    }
+}
+
+// Adds the changes of runs that stand alone.
+fn add_all_alone(runs: &[ChangeRun], alone: &mut Vec<CellChange>) -> Result<(), NoMemory>
+    ensures { OnOk result ((b : List ℕ) → changes cell_cmp alone.new.items (Object b) ≡
+        changes cell_cmp alone.old.items (Object b) || changes cell_cmp (all_changes runs.now) (Object b)) }
+{
+    for run in runs {
+        add_alone(run.form(), alone)?;
+    }
+    Ok(())
+}
+
+/// The changes that stand alone. Among them are those of all objects.
+pub(crate) fn lone_changes(alloc: Global, delta: &Changes) -> Result<Vec<CellChange>, NoMemory>
+    ensures { IfOk result (λ v. (b : List ℕ) → changes cell_cmp v.items (Object b) ≡ changes cell_cmp (stored_part delta.now) (Object b)) }
+{
+    let mut alone = Vec::new(alloc);
+    let (first, runs) = delta.parts();
+    let Some(first) = first else {
+        add_all_alone(runs, &mut alone)?;
+        return Ok(alone);
+    };
+    alone.push(first)?;
+    add_all_alone(runs, &mut alone)?;
+    Ok(alone)
+}
