@@ -13,19 +13,19 @@ use Rattle.wb_machine.specs.Replies.{answer_data, numbers_data, reply_of}
 use Rattle.wb_machine.specs.declared.replies.reply.Reply.TheVariants.{Edited, Undone, Cascaded, Redone, Listed, Counted}
 use Rattle.wb_machine.proofs.Pieces.{items_are}
 
-pub edited_is : (k n : ℕ) → numbers_text (codes "edit") k (codes "n") n ≡ reply_of (Edited k n)
+pub edited_is : (k n : ℕ) → numbers_text (codes "{\"edit\":") k (codes ",\"n\":") (decimal n) ≡ reply_of (Edited k n)
 unfolding serde_json_on_literals
 edited_is k n = refl
 
-pub undone_is : (k n : ℕ) → numbers_text (codes "n") n (codes "undone") k ≡ reply_of (Undone k n)
+pub undone_is : (k n : ℕ) → numbers_text (codes "{\"n\":") n (codes ",\"undone\":") (decimal k) ≡ reply_of (Undone k n)
 unfolding serde_json_on_literals
 undone_is k n = refl
 
-pub redone_is : (k n : ℕ) → numbers_text (codes "n") n (codes "redone") k ≡ reply_of (Redone k n)
+pub redone_is : (k n : ℕ) → numbers_text (codes "{\"n\":") n (codes ",\"redone\":") (decimal k) ≡ reply_of (Redone k n)
 unfolding serde_json_on_literals
 redone_is k n = refl
 
-pub counted_is : (n w : ℕ) → numbers_text (codes "edits") n (codes "writes") w ≡ reply_of (Counted n w)
+pub counted_is : (n w : ℕ) → numbers_text (codes "{\"edits\":") n (codes ",\"writes\":") (decimal w) ≡ reply_of (Counted n w)
 unfolding serde_json_on_literals
 counted_is n w = refl
 

@@ -3,9 +3,9 @@ use Rattle.std.specs.Prelude.{ℕ, ℤ, Bool, true, false, List, ◌++◌, codes
 use Rattle.std.specs.Fmt.{signed_decimal}
 use Rattle.std.specs.List.{join_by}
 
--- two numbers under their keys
-abbrev pub numbers_text : List ℕ → ℕ → List ℕ → ℕ → List ℕ
-numbers_text first a second b = codes "{\"" ++ (first ++ (codes "\":" ++ (decimal a ++ (codes ",\"" ++ (second ++ (codes "\":" ++ (decimal b ++ codes "}")))))))
+-- two numbers, by their digits that of the second, each behind what stands before it
+abbrev pub numbers_text : List ℕ → ℕ → List ℕ → List ℕ → List ℕ
+numbers_text first a second digits = first ++ (decimal a ++ (second ++ (digits ++ codes "}")))
 
 -- how many cells were set back, and the numbers of the edits that were undone
 abbrev pub undone_text : ℕ → List ℕ → List ℕ

@@ -1,5 +1,6 @@
 //! What a request is answered.
 
+pub mod digits;
 pub mod edit_numbers;
 pub mod explained_text;
 pub mod numbers_text;

@@ -4,16 +4,17 @@ ghost use Rattle.std.specs.List.{flat_map, join_by};
 ghost use Rattle.wb_machine.specs.Pieces.{further};
 ghost use Rattle.wb_machine.specs.Printed.{undone_text, dependents_text};
 
+use crate::replies::digits::{push_between, push_number};
 use crate::replies::edit_numbers::EditNumbers;
 use std::alloc::{AllocError, Global};
-use std::fmt::Write;
 
 // Numbers, each after a comma.
 fn push_more_numbers(out: &mut String, rest: &[u64]) -> Result<(), AllocError>
     ensures { OnOk result (string_bytes out.new ≡ string_bytes out.old ++ flat_map (further decimal) rest.now) }
 {
     for x in rest {
-        write!(out, ",{x}")?;
+        out.push_str(",")?;
+        push_number(out, *x)?;
     }
     Ok(())
 }
@@ -25,7 +26,7 @@ fn push_numbers(out: &mut String, xs: &[u64]) -> Result<(), AllocError>
     match xs {
         [] => Ok(()),
         [first, rest @ ..] => {
-            write!(out, "{first}")?;
+            push_number(out, *first)?;
             push_more_numbers(out, rest)
         }
     }
@@ -35,7 +36,7 @@ fn push_numbers(out: &mut String, xs: &[u64]) -> Result<(), AllocError>
 fn push_count(out: &mut String, count: u64) -> Result<(), AllocError>
     ensures { OnOk result (string_bytes out.new ≡ string_bytes out.old ++ (codes "{\"n\":" ++ (decimal count ++ codes ",\"undone\":["))) }
 {
-    write!(out, "{{\"n\":{count},\"undone\":[")
+    push_between(out, "{\"n\":", count, ",\"undone\":[")
 }
 
 // Numbers up to the end of the object.

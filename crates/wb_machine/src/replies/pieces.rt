@@ -6,9 +6,9 @@ ghost use Rattle.serde_json.specs.Data.{string};
 ghost use Rattle.serde_json.specs.Written.{compact_text};
 ghost use Rattle.wb_machine.specs.Pieces.{further, point_text, index_text, pair_text, piece_text};
 
+use crate::replies::digits::{push_between, push_number};
 use serde_json::json;
 use std::alloc::{AllocError, Global};
-use std::fmt::Write;
 use wb_cells::{AnyIndex, Index};
 use wb_history::Piece;
 
@@ -17,7 +17,8 @@ fn push_more_integers(out: &mut String, rest: &[i64]) -> Result<(), AllocError>
     ensures { OnOk result (string_bytes out.new ≡ string_bytes out.old ++ flat_map (further signed_decimal) rest.now) }
 {
     for x in rest {
-        write!(out, ",{x}")?;
+        out.push_str(",")?;
+        push_number(out, *x)?;
     }
     Ok(())
 }
@@ -29,7 +30,7 @@ fn push_integers(out: &mut String, xs: &[i64]) -> Result<(), AllocError>
     match xs {
         [] => Ok(()),
         [first, rest @ ..] => {
-            write!(out, "{first}")?;
+            push_number(out, *first)?;
             push_more_integers(out, rest)
         }
     }
@@ -41,7 +42,7 @@ fn push_point(out: &mut String, coordinates: &[i64]) -> Result<(), AllocError>
     ensures { OnOk result (string_bytes out.new ≡ string_bytes out.old ++ point_text coordinates.now) }
 {
     match coordinates {
-        [only] => write!(out, "{only}"),
+        [only] => push_number(out, *only),
         several => {
             out.push_str("[")?;
             push_integers(out, several)?;
@@ -73,10 +74,9 @@ fn push_index(alloc: Global, out: &mut String, index: &AnyIndex) -> Result<(), A
 fn push_pair(alloc: Global, out: &mut String, pair: &(AnyIndex, i64)) -> Result<(), AllocError>
     ensures { OnOk result (string_bytes out.new ≡ string_bytes out.old ++ pair_text pair.now) }
 {
-    let element = pair.1;
     out.push_str("[")?;
     push_index(alloc, out, &pair.0)?;
-    write!(out, ",{element}]")
+    push_between(out, ",", pair.1, "]")
 }
 
 // Elements after their indices, each of them after a comma.

@@ -1,5 +1,5 @@
 // The texts of replies: compact JSON, keys in ascending order.
-ghost use Rattle.std.specs.Prelude.{◌≡◌, codes, IfOk, string_bytes};
+ghost use Rattle.std.specs.Prelude.{◌≡◌, ◌++◌, codes, IfOk, string_bytes};
 ghost use Rattle.serde_json.specs.Data.{object, number, unsigned, string, member, no_members};
 ghost use Rattle.serde_json.specs.View.{view};
 ghost use Rattle.serde_json.specs.Written.{compact_text};
@@ -9,10 +9,12 @@ ghost use Rattle.wb_machine.specs.Printed.{numbers_text, value_text, size_text, 
 ghost use Rattle.wb_machine.specs.Replies.{edit_code, edit_name, code_of, name_of, refusal_data, answer_data, reply_data, reply_of};
 ghost use Rattle.wb_machine.specs.declared.replies.reply.Reply.TheVariants.{Printed, PrintedFrom};
 
+use crate::replies::digits::{push_between, push_number};
 use crate::replies::explained_text::explained_text;
 use crate::replies::numbers_text::{dependents_text, undone_text};
 use crate::replies::pieces::piece_text;
 use crate::replies::reply::Reply;
+use itoa::Integer;
 use serde_json::{Value, json};
 use std::alloc::{AllocError, Global};
 use wb_cells::EditRefusal;
@@ -179,49 +181,51 @@ fn refusal_text(alloc: Global, refusal: Refusal) -> Result<String, AllocError>
     value.to_string(alloc)
 }
 
-// The object of two numbers, written without a value of it in between.
-fn numbers_text(
+// The object of two numbers, each behind what stands before it, written without a value of it in between.
+fn numbers_text<N: Integer>(
     alloc: Global,
     first: &str,
     a: u64,
     second: &str,
-    b: u64,
+    b: N,
 ) -> Result<String, AllocError>
-    ensures { IfOk result (λ s. string_bytes s ≡ numbers_text first.now a second.now b) }
+    ensures { IfOk result (λ s. string_bytes s ≡ numbers_text first.now a second.now (N.text b)) }
 {
     let mut text = String::with_capacity(alloc, SHORT)?;
-    write!(text, "{{\"{first}\":{a},\"{second}\":{b}}}")?;
+    push_between(&mut text, first, a, second)?;
+    push_number(&mut text, b)?;
+    text.push_str("}")?;
     Ok(text)
 }
 
-// The object of how many edits there are and how many cells were set.
-fn counts_text(alloc: Global, edits: u64, writes: u128) -> Result<String, AllocError>
-    ensures { IfOk result (λ s. string_bytes s ≡ numbers_text (codes "edits") edits (codes "writes") writes) }
+// The object of a number behind what stands before it.
+fn number_text<N: Integer>(alloc: Global, before: &str, number: N) -> Result<String, AllocError>
+    ensures { IfOk result (λ s. string_bytes s ≡ before.now ++ (N.text number ++ codes "}")) }
 {
-    format!(in alloc; "{{\"edits\":{edits},\"writes\":{writes}}}")
+    let mut text = String::with_capacity(alloc, SHORT)?;
+    push_between(&mut text, before, number, "}")?;
+    Ok(text)
 }
 
-// The object of an element, written as a text at once.
+// The object of an element.
 fn value_text(alloc: Global, value: i64) -> Result<String, AllocError>
     ensures { IfOk result (λ s. string_bytes s ≡ value_text value) }
 {
-    let mut text = String::with_capacity(alloc, SHORT)?;
-    write!(text, "{{\"value\":{value}}}")?;
-    Ok(text)
+    number_text(alloc, "{\"value\":", value)
 }
 
 // The object of a number of indices.
 fn size_text(alloc: Global, size: u64) -> Result<String, AllocError>
     ensures { IfOk result (λ s. string_bytes s ≡ size_text size) }
 {
-    format!(in alloc; "{{\"size\":{size}}}")
+    number_text(alloc, "{\"size\":", size)
 }
 
 // The object of a locale.
 fn locale_text(alloc: Global, locale: u64) -> Result<String, AllocError>
     ensures { IfOk result (λ s. string_bytes s ≡ locale_text locale) }
 {
-    format!(in alloc; "{{\"locale\":{locale}}}")
+    number_text(alloc, "{\"locale\":", locale)
 }
 
 fn in_force_text(alloc: Global, in_force: bool) -> Result<String, AllocError>
@@ -297,15 +301,17 @@ fn text_of(alloc: Global, reply: &Reply) -> Result<String, AllocError>
     ensures { IfOk result (λ s. string_bytes s ≡ reply_of reply.now) }
 {
     match reply {
-        Reply::Edited(edit, n) => numbers_text(alloc, "edit", *edit, "n", *n as u64),
-        Reply::Undone(edit, n) => numbers_text(alloc, "n", *n as u64, "undone", *edit),
+        Reply::Edited(edit, n) => numbers_text(alloc, "{\"edit\":", *edit, ",\"n\":", *n as u64),
+        Reply::Undone(edit, n) => numbers_text(alloc, "{\"n\":", *n as u64, ",\"undone\":", *edit),
         Reply::Cascaded(edits, n) => undone_text(alloc, *n as u64, edits),
-        Reply::Redone(edit, n) => numbers_text(alloc, "n", *n as u64, "redone", *edit),
+        Reply::Redone(edit, n) => numbers_text(alloc, "{\"n\":", *n as u64, ",\"redone\":", *edit),
         Reply::Listed(edits) => dependents_text(alloc, edits),
         Reply::Answered(answer) => answer_text(alloc, answer),
         Reply::Printed(text) => printed_text(alloc, text.as_str()),
         Reply::PrintedFrom(edits, text) => printed_from_text(alloc, *edits, text.as_str()),
-        Reply::Counted(edits, writes) => counts_text(alloc, *edits, *writes),
+        Reply::Counted(edits, writes) => {
+            numbers_text(alloc, "{\"edits\":", *edits, ",\"writes\":", *writes)
+        }
         Reply::Explained(wrong) => explained_text(alloc, wrong),
         Reply::Refused(refusal) => refusal_text(alloc, *refusal),
     }
