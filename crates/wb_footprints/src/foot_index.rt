@@ -1,15 +1,16 @@
 //! The index itself: footprints come and go by their numbers.
 
-ghost use Rattle.std.specs.Prelude.{◌≡◌, ◌++◌, Some, None, OnOk, OnErr};
+ghost use Rattle.std.specs.Prelude.{◌≡◌, [], ◌∷◌, ◌++◌, Option, Some, None, OnOk, OnErr};
+ghost use Rattle.wb_cells.specs.declared.cells.value.Value.{Value};
 ghost use Rattle.wb_cells.specs.Reads.{all_read};
 ghost use Rattle.wb_footprints.specs.Footprints.{Footprints, IsIndexOf, footprint, with_footprint};
 
-use crate::marks::cell_lists::{mark_all, unmark_all};
+use crate::marks::cell_lists::{mark_all, unmark, unmark_all};
 use crate::marks::place_marks::PlaceMarks;
-use crate::marks::reading::{mark_reads, unmark_reads};
+use crate::marks::reading::{mark_reads, unmark_reads, unread_each};
 use crate::places::marking::Marking;
 use std::alloc::Global;
-use wb_cells::{Changes, Pattern, ReadRun};
+use wb_cells::{Cell, Changes, Pattern, ReadRun};
 use wb_range::NoMemory;
 
 /// An index of footprints by the cells that they read and touched. It owns none: its contracts speak of those that it
@@ -72,5 +73,15 @@ impl FootIndex {
     {
         unmark_all(&mut self.touched, Marking::Families, before, number);
         unmark_reads(&mut self.read, reads, runs, number);
+    }
+
+    /// The same of an edit that touched one cell, by that cell.
+    pub fn take_one(&mut self, number: u64, reads: &[Pattern], cell: &Cell)
+        ensures { (footprints : Footprints) (before : Option Value) → IsIndexOf self.old footprints →
+            footprints number ≡ Some (footprint reads.now (record { cell = cell.now; value = before } ∷ [])) →
+            IsIndexOf self.new (with_footprint footprints number None) }
+    {
+        unmark(&mut self.touched, Marking::Families, cell, number);
+        unread_each(&mut self.read, reads, number);
     }
 }

@@ -28,7 +28,7 @@ fn mark(marks: &mut PlaceMarks, marking: Marking, cell: &Cell, number: u64) -> R
     }
 }
 
-fn unmark(marks: &mut PlaceMarks, marking: Marking, cell: &Cell, number: u64)
+pub(crate) fn unmark(marks: &mut PlaceMarks, marking: Marking, cell: &Cell, number: u64)
     ensures { Clears (place_marked marks.old) (place_marked marks.new) (at_cell marking cell.now) number }
 {
     marks.take(&own(cell), number);

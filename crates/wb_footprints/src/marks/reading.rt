@@ -73,7 +73,7 @@ pub(crate) fn mark_reads(
     read_runs(marks, runs, number)
 }
 
-fn unread_each(marks: &mut PlaceMarks, reads: &[Pattern], number: u64)
+pub(crate) fn unread_each(marks: &mut PlaceMarks, reads: &[Pattern], number: u64)
     ensures { Clears (place_marked marks.old) (place_marked marks.new) (read_at reads.now) number }
 {
     for x in reads {

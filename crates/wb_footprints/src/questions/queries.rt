@@ -18,7 +18,7 @@ use wb_cells::{Cell, CellChange, ChangeRun, Changes, Pattern, ReadRun};
 
 impl FootIndex {
     /// The least number above `after` whose footprint read or touched the cell.
-    fn met_after(&self, cell: &Cell, after: u64) -> Option<u64>
+    pub fn met_after(&self, cell: &Cell, after: u64) -> Option<u64>
         ensures least { (footprints : Footprints) → IsIndexOf self.now footprints → IsLeastAfter (λ n. met_by (footprints n) cell.now) after result }
         ensures above { IfSome result (λ j. after < j) }
     {
