@@ -4,4 +4,5 @@ pub mod Told
 pub mod Puts
 pub mod Several
 pub mod Lines
+pub mod InTurn
 pub mod OnTheWire

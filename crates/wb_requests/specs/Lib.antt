@@ -4,6 +4,7 @@ pub mod Fields
 pub mod Literals
 pub mod Sources
 pub mod Requests
+pub mod InTurn
 pub mod Wire
 pub mod Explained
 pub mod Said

@@ -5,6 +5,7 @@ pub mod books;
 pub mod domains;
 pub mod explains;
 pub mod fields;
+pub mod in_turn;
 pub mod line_text;
 pub mod literals;
 pub mod queries;

@@ -7,6 +7,7 @@ ghost use Rattle.wb_requests.specs.Requests.{by_op, request_of, request};
 
 use crate::requests::arrays::set_of;
 use crate::requests::fields::text_field;
+use crate::requests::in_turn::{get_members, get_with, set_members, set_with};
 use crate::requests::queries::get_of;
 use crate::requests::request::Request;
 use crate::requests::single::{by_single_op, redo_of, undo_of};
@@ -30,11 +31,26 @@ fn by_op(alloc: Global, op: &str, value: &Value) -> Result<Request, Refusal>
     }
 }
 
-fn request_of(alloc: Global, value: &Value) -> Result<Request, Refusal>
+// What is asked by an object, by its op.
+fn asked_by_op(alloc: Global, value: &Value) -> Result<Request, Refusal>
     ensures { IsAnswer (request_of (view value.now)) result }
 {
     let op = text_field(value, "op")?;
     by_op(alloc, op, value)
+}
+
+// What is asked by an object. A set and a get, which come most, are read by their members in turn.
+#[tactic(auto, using(crate::proofs::InTurn::set_answer, crate::proofs::InTurn::get_answer))]
+fn request_of(alloc: Global, value: &Value) -> Result<Request, Refusal>
+    ensures { IsAnswer (request_of (view value.now)) result }
+{
+    if let Some((name, index, element)) = set_members(value) {
+        return set_with(name, index, element);
+    }
+    if let Some((name, index)) = get_members(value) {
+        return get_with(name, index);
+    }
+    asked_by_op(alloc, value)
 }
 
 // Why a text is no JSON, or that memory ran out.
