@@ -58,39 +58,6 @@ module _ {X Y : Type 0} (p : X → Bool) (g : Y → X) where
   none_pass none [] = refl
   none_pass none (y ∷ ys) = rw (none y) (none_pass none ys)
 
-one_more : (n : ℕ) → suc n ≡ 1 + n
-one_more n = omega arith
-
-pub count_kept : {X : Type 0} (p : X → Bool) (xs : List X) → count_by p xs ≡ length (filter p xs)
-count_kept {X = X} p xs = sym (is_count_by (λ ys. length (filter p ys)) p refl step xs)
-  where
-    step : (y : X) (ys : List X) → length (filter p (y ∷ ys)) ≡ cond (p y) (1 + length (filter p ys)) (length (filter p ys))
-    step y ys = elim (p y) as (λ b. length (cond b (y ∷ filter p ys) (filter p ys)) ≡ cond b (1 + length (filter p ys)) (length (filter p ys)))
-        [ true ↦ one_more (length (filter p ys)) | false ↦ refl ]
-
-count-append : {X : Type 0} (p : X → Bool) (xs ys : List X) → count_by p (xs ++ ys) ≡ count_by p xs + count_by p ys
-count-append p xs ys =
-    let h : length (filter p xs ++ filter p ys) ≡ length (filter p xs) + length (filter p ys) = length-append (filter p xs) (filter p ys) in
-    let all : count_by p (xs ++ ys) ≡ length (filter p xs ++ filter p ys) = count_kept p (xs ++ ys) ∙ ap length (filter-append p xs ys) in
-    omega (arith, all, h, count_kept p xs, count_kept p ys)
-
--- those of the runs before one, and of that one, are among all
-pub count_few : (p : Change Cell Value → Bool) (rs : List ChangeRun) (k : ℕ) (r : ChangeRun) → k < length rs → r ≡ get_or rs k r →
-    count_by p (all_changes (take k rs)) + count_by p (changes_in r.form) ≤ length (all_changes rs)
-count_few p [] k r low is = absurd (omega (arith, low))
-count_few p (y ∷ rs) zero r low is =
-    let here : count_by p (changes_in r.form) ≡ count_by p (changes_in y.form) = ap (λ (x : ChangeRun). count_by p (changes_in x.form)) is in
-    omega (arith, here, count_by-le-length p (changes_in y.form), length-append (changes_in y.form) (all_changes rs))
-count_few p (y ∷ rs) (suc k) r low is =
-    let rest = count_few p rs k r (omega (arith, low)) is in
-    omega (
-      arith,
-      rest,
-      count-append p (changes_in y.form) (all_changes (take k rs)),
-      count_by-le-length p (changes_in y.form),
-      length-append (changes_in y.form) (all_changes rs),
-    )
-
 -- ---- where changes of elements lead
 
 pub apart_all : {Y : Type 0} (g : Y → Change Cell Value) (ys : List Y) (delta : Changes) (a : Name) (xs : Group) →

@@ -79,12 +79,3 @@ sets-append (x ∷ xs) ys =
           ap (λ (zs : Changes). y ∷ zs) (sets-append xs ys)
       | None ↦ sets-append xs ys
     ]
-
-pub before_more : (xs : Changes) (i : ℕ) (x : Change Cell Value) (s : Cells) (was now : Changes) → i < length xs → x ≡ get_or xs i x →
-    was ≡ inverse (sets (take i xs)) s → now ≡ was ++ inverse (sets (x ∷ [])) s → now ≡ inverse (sets (take (i + 1) xs)) s
-before_more xs i x s was now low is so_far added =
-    added
-    ∙ ap (λ (ys : Changes). ys ++ inverse (sets (x ∷ [])) s) so_far
-    ∙ sym (map-append _ (sets (take i xs)) (sets (x ∷ [])))
-    ∙ ap (λ (ys : Changes). inverse ys s)
-    (sym (sets-append (take i xs) (x ∷ [])) ∙ ap sets (ap (λ (y : Change Cell Value). take i xs ++ y ∷ []) is ∙ sym (take_more xs i x low)))

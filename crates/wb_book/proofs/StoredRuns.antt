@@ -3,6 +3,8 @@ use Rattle.std.proofs.Common.{◌≡◌, ℕ, zero, suc, ◌+◌, ◌<◌, Bool,
 use Rattle.std.proofs.lemmas.List.{map-append, append-nil}
 use Rattle.std.proofs.lemmas.List.Elements.{filter-append}
 use Rattle.std.proofs.lemmas.List.Folds.{list_any-append}
+use Rattle.std.specs.List.{list_all}
+use Rattle.std.specs.Prelude.{ℤ, is_some}
 use Rattle.std.specs.Ordering.{eq_by_cmp}
 use Rattle.selective_undo.specs.declared.Change.{Change}
 use Rattle.selective_undo.specs.Changes.{apply, changes, clears, inverse, sets}
@@ -13,7 +15,8 @@ use Rattle.wb_cells.specs.declared.cells.cell.Cell.TheVariants.{Object, Shape, I
 use Rattle.wb_cells.specs.declared.cells.value.Value.{Value}
 use Rattle.wb_cells.specs.declared.changes.run.ChangeRun.{ChangeRun}
 use Rattle.wb_cells.specs.Cells.{Cells, Changes, Name, cell_cmp}
-use Rattle.wb_cells.specs.Runs.{changes_in, all_changes}
+use Rattle.wb_cells.specs.declared.changes.row.IndexedRow.{IndexedRow}
+use Rattle.wb_cells.specs.Runs.{changes_in, all_changes, packed_changes}
 use Rattle.wb_book.specs.Joined.{is_stored, stored_part}
 use Rattle.wb_book.proofs.EachChange.{one_more}
 use Rattle.wb_book.proofs.Entries.{run_more}
@@ -100,6 +103,18 @@ pub before_run_more : (rs : List ChangeRun) (k : ℕ) (r : ChangeRun) (s : Cells
     ≡ inverse (sets (stored_part (all_changes (take k rs)))) s ++ inverse (sets (stored_part (changes_in r.form))) s
 before_run_more rs k r s low is =
     ap (λ (zs : Changes). inverse (sets (stored_part zs)) s) (run_more rs k r low is) ∙ then_before (all_changes (take k rs)) (changes_in r.form) s
+
+-- ---- runs that set nothing, or clear nothing
+
+pub all_absent : (row : IndexedRow) (es : List (List ℤ × Option ℤ)) → list_all (λ e. not (is_some e.1)) es ≡ true → sets (packed_changes row es) ≡ []
+all_absent row [] h = refl
+all_absent row ((p, None) ∷ es) h = all_absent row es h
+all_absent row ((p, Some n) ∷ es) h = cc
+
+pub all_present : (row : IndexedRow) (es : List (List ℤ × Option ℤ)) → list_all (λ e. is_some e.1) es ≡ true → clears (packed_changes row es) ≡ []
+all_present row [] h = refl
+all_present row ((p, Some n) ∷ es) h = all_present row es h
+all_present row ((p, None) ∷ es) h = cc
 
 -- ---- cells that no change sets
 

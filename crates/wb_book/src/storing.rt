@@ -1,7 +1,8 @@
 //! Changes of the stored cells, made run by run. No list is made of them.
 
-ghost use Rattle.std.specs.Prelude.{◌≡◌, ◌||◌, ℕ, List, [], ◌∷◌, ◌++◌, false, IfOk, OnOk, IsSome};
+ghost use Rattle.std.specs.Prelude.{◌≡◌, ◌||◌, ℕ, List, [], ◌∷◌, ◌++◌, not, true, false, is_some, IfOk, OnOk, IsSome};
 ghost use Rattle.std.specs.FinMap as map;
+ghost use Rattle.std.specs.List.{list_all};
 ghost use Rattle.selective_undo.specs.Changes.{apply, inverse, sets, clears, changes};
 ghost use Rattle.wb_cells.specs.declared.cells.cell.Cell.{Cell as cell_type};
 ghost use Rattle.wb_cells.specs.Cells.{cell_cmp, state_of};
@@ -14,6 +15,62 @@ use std::alloc::Global;
 use std::slice;
 use wb_cells::{CellChange, ChangeRun, Changes, RunForm, StoredCells, clear_whole, store};
 use wb_range::NoMemory;
+
+// ---- runs that set nothing, or clear nothing
+
+// Whether no change gives a number.
+fn are_absent<const R: usize>(changes: &[([i64; R], Option<i64>)]) -> bool
+    ensures { result ≡ true → list_all (λ e. not (is_some e.1)) changes.now ≡ true }
+{
+    for (_point, number) in changes {
+        if number.is_some() {
+            return false;
+        }
+    }
+    true
+}
+
+// Whether each change gives a number.
+fn are_present<const R: usize>(changes: &[([i64; R], Option<i64>)]) -> bool
+    ensures { result ≡ true → list_all (λ e. is_some e.1) changes.now ≡ true }
+{
+    for (_point, number) in changes {
+        if number.is_none() {
+            return false;
+        }
+    }
+    true
+}
+
+// Whether the changes of a run are known to set no cell: one look at each point.
+fn sets_nothing(form: &RunForm) -> bool
+    ensures { result ≡ true → sets (changes_in form.now) ≡ [] }
+{
+    match form {
+        RunForm::One(_) => false,
+        RunForm::Rank1(packed) => are_absent(packed.changes()),
+        RunForm::Rank2(packed) => are_absent(packed.changes()),
+        RunForm::Rank3(packed) => are_absent(packed.changes()),
+        RunForm::Labels(_) => false,
+        RunForm::Rectangle(_) => false,
+        RunForm::Numbers(_) => false,
+    }
+}
+
+// Whether the changes of a run are known to clear no cell: one look at each point.
+fn clears_nothing(form: &RunForm) -> bool
+    ensures { result ≡ true → clears (changes_in form.now) ≡ [] }
+{
+    match form {
+        RunForm::One(_) => false,
+        RunForm::Rank1(packed) => are_present(packed.changes()),
+        RunForm::Rank2(packed) => are_present(packed.changes()),
+        RunForm::Rank3(packed) => are_present(packed.changes()),
+        RunForm::Labels(_) => false,
+        RunForm::Rectangle(_) => false,
+        RunForm::Numbers(_) => false,
+    }
+}
 
 // ---- set
 
@@ -47,6 +104,9 @@ fn set_each(cells: &mut StoredCells, run: &ChangeRun) -> Result<(), NoMemory>
     ensures stays { (c : cell_type) → IsSome (map.get (state_of cells.old) c) → IsSome (map.get (state_of cells.new) c) }
     ensures set { OnOk result (state_of cells.new ≡ apply (sets (changes_in run.now.form)) (state_of cells.old)) }
 {
+    if sets_nothing(run.form()) {
+        return Ok(());
+    }
     for at in 0..run.len() {
         set_one(cells, &run.change(at))?;
     }
@@ -97,6 +157,9 @@ pub(crate) fn set_given(cells: &mut StoredCells, delta: &Changes) -> Result<(), 
 fn clear_each(cells: &mut StoredCells, run: &ChangeRun)
     ensures { state_of cells.new ≡ apply (clears (changes_in run.now.form)) (state_of cells.old) }
 {
+    if clears_nothing(run.form()) {
+        return;
+    }
     for at in 0..run.len() {
         store::clear_absent(cells, slice::from_ref(&run.change(at)));
     }
@@ -187,6 +250,9 @@ fn add_each_before(
 ) -> Result<(), NoMemory>
     ensures { OnOk result (before.new.items ≡ before.old.items ++ inverse (sets (changes_in run.now.form)) (state_of cells.now)) }
 {
+    if sets_nothing(run.form()) {
+        return Ok(());
+    }
     for at in 0..run.len() {
         add_before(cells, &run.change(at), before)?;
     }

@@ -1,4 +1,5 @@
 use Rattle.std.proofs.Common.{◌<◌, [], ◌∷◌, ◌++◌, take, length, append_assoc, sym, ap, ◌∙◌, arith}
+use Rattle.std.proofs.lemmas.List.{append-nil}
 use Rattle.selective_undo.specs.Changes.{inverse, sets}
 use Rattle.wb_cells.specs.Cells.{Changes, state_of}
 use Rattle.wb_cells.specs.Runs.{changes_in}
@@ -16,3 +17,8 @@ loop-at-preserved c =
     ∙ ap (λ (ys : Changes). ys ++ inverse (sets (x ∷ [])) s) c.loop-at.invariant
     ∙ append_assoc c.args.before.now.items (inverse (sets (take k xs)) s) (inverse (sets (x ∷ [])) s)
     ∙ ap (λ (ys : Changes). c.args.before.now.items ++ ys) (sym (before_one_more xs k x s low c.change.ensures))
+
+pub returns-then-sets_nothing : goal.returns-then-sets_nothing
+returns-then-sets_nothing c =
+    let none = ap (λ f. sets (changes_in f)) (sym c.form.ensures) ∙ c.sets_nothing.ensures c.if-sets_nothing.true in
+    sym (ap (λ (ys : Changes). c.args.before.now.items ++ inverse ys (state_of c.args.cells.now)) none ∙ append-nil c.args.before.now.items)

@@ -1,5 +1,6 @@
-use Rattle.std.proofs.Common.{◌<◌, length, ◌∙◌, arith}
-use Rattle.wb_cells.specs.Cells.{state_of}
+use Rattle.std.proofs.Common.{◌<◌, length, sym, ap, ◌∙◌, arith}
+use Rattle.selective_undo.specs.Changes.{apply, sets}
+use Rattle.wb_cells.specs.Cells.{Changes, state_of}
 use Rattle.wb_cells.specs.Runs.{changes_in}
 use Rattle.wb_book.proofs.SetBack.{other_set}
 use Rattle.wb_book.proofs.StoredRuns.{set_one_more}
@@ -24,3 +25,8 @@ returns-in_err-set_one-clause-others c = λ q e.
     let xs = changes_in c.args.run.now.form in
     let low : c.loop-at.at < length xs = omega (arith, c.loop-at-test.true, c.len-at-end.ensures) in
     c.set_one.ensures.others q (other_set xs c.loop-at.at c.change.result q low c.change.ensures e) ∙ c.loop-at.invariant.others q e
+
+pub returns-then-sets_nothing-clause-set : goal.returns-then-sets_nothing-clause-set
+returns-then-sets_nothing-clause-set c =
+    ap (λ (ys : Changes). apply ys (state_of c.args.cells.now))
+    (sym (ap (λ f. sets (changes_in f)) (sym c.form.ensures) ∙ c.sets_nothing.ensures c.if-sets_nothing.true))
