@@ -17,5 +17,6 @@ pub mod Covered
 pub mod Straight
 pub mod Alike
 pub mod Held
+pub mod Filled
 pub mod Free
 pub mod Appended

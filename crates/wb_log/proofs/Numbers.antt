@@ -12,7 +12,7 @@ use Rattle.wb_cells.specs.declared.cells.pattern.Pattern.{Pattern}
 use Rattle.wb_cells.specs.declared.reads.ReadRun.{ReadRun}
 use Rattle.wb_cells.specs.Reads.{patterns_of, read_in, all_read}
 use Rattle.wb_log.specs.declared.entry.RecordForm.{RecordForm}
-use Rattle.wb_log.specs.declared.entry.RecordForm.TheVariants.{Set, Copy, Irv, Member, Fill, Sets, Whole}
+use Rattle.wb_log.specs.declared.entry.RecordForm.TheVariants.{Set, Copy, Irv, Member, Fill, Sets, Fills, Whole}
 use Rattle.wb_log.specs.Records.{kept_of}
 
 equal_from : (p : Ordering) → is_eq p ≡ true → p ≡ Equal
@@ -50,4 +50,5 @@ none_kept (Irv x) = refl
 none_kept (Member x) = refl
 none_kept (Fill x) = refl
 none_kept (Sets x) = refl
+none_kept (Fills x) = refl
 none_kept (Whole w) = refl

@@ -4,6 +4,7 @@ pub mod Cascades
 pub mod Wants
 pub mod Kept
 pub mod Sets
+pub mod Fills
 pub mod Records
 pub mod Needed
 pub mod Indexed

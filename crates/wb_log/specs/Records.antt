@@ -22,11 +22,11 @@ use Rattle.wb_log.specs.declared.entry.Was.TheVariants.{Untold, Number as WasNum
 use Rattle.wb_log.specs.declared.entry.LoggedEdit.{LoggedEdit}
 use Rattle.wb_log.specs.declared.entry.UndoData.{UndoData}
 use Rattle.wb_log.specs.declared.entry.RecordForm.{RecordForm}
-use Rattle.wb_log.specs.declared.entry.RecordForm.TheVariants.{Set, Copy, Irv, Member as OneMember, Fill, Sets, Whole}
+use Rattle.wb_log.specs.declared.entry.RecordForm.TheVariants.{Set, Copy, Irv, Member as OneMember, Fill, Sets, Fills, Whole}
 use Rattle.wb_log.specs.declared.entry.LentEdit.{LentEdit}
 use Rattle.wb_log.specs.declared.entry.LentEdit.TheVariants.{Own, Lent as LentOne}
 use Rattle.wb_log.specs.declared.entry.LentFootprint.{LentFootprint}
-use Rattle.wb_log.specs.declared.entry.LentFootprint.TheVariants.{Set as OfSet, Copy as OfCopy, Irv as OfIrv, Member as OfMember, Fill as OfFill, Sets as OfSets, Lent as LentKept}
+use Rattle.wb_log.specs.declared.entry.LentFootprint.TheVariants.{Set as OfSet, Copy as OfCopy, Irv as OfIrv, Member as OfMember, Fill as OfFill, Sets as OfSets, Fills as OfFills, Lent as LentKept}
 use Rattle.wb_log.specs.Kept.{footprint}
 
 -- what a new value of an element reads: the array, and the element
@@ -96,6 +96,7 @@ kept_of (Fill x) old =
     let y = x.value in
     one_kept (fill_reads y.array y.on) (filled_cell y.array y.on) old
 kept_of (Sets x) old = None
+kept_of (Fills x) old = None
 kept_of (Whole w) old = None
 
 -- the entry that a form stands for
@@ -106,6 +107,7 @@ shown (Irv x) = record { edit = OneCommand (IrvTo x.array x.value); kept = kept_
 shown (OneMember x) = record { edit = member_edit x.comes x.domain x.place; kept = kept_of (OneMember x) (before_in x.was) }
 shown (Fill x) = record { edit = OneCommand (FillWith x.value.array (Ranges x.value.on) x.value.value); kept = kept_of (Fill x) (before_in x.value.was) }
 shown (Sets x) = record { edit = x.value.edit; kept = x.value.were }
+shown (Fills x) = record { edit = OneCommand (FillWith x.value.array (Ranges x.value.on) x.value.value); kept = x.value.were }
 shown (Whole w) = w.value
 
 -- what is kept of a form's edit once it is told what the cells held: of sets as one edit that, and of another form what was
@@ -116,6 +118,7 @@ held_of (Copy x) were = kept_of (Copy x) (before_in x.value.was)
 held_of (Irv x) were = kept_of (Irv x) (before_in x.was)
 held_of (OneMember x) were = kept_of (OneMember x) (before_in x.was)
 held_of (Fill x) were = kept_of (Fill x) (before_in x.value.was)
+held_of (Fills x) were = x.value.were
 held_of (Whole w) were = w.value.kept
 
 -- the edit that is lent
@@ -131,4 +134,5 @@ lent_footprint (OfIrv rs b) = footprint rs b
 lent_footprint (OfMember rs b) = footprint rs b
 lent_footprint (OfFill rs b) = footprint rs b
 lent_footprint (OfSets w) = footprint w.now.footprint w.now.inverse
+lent_footprint (OfFills w) = footprint w.now.footprint w.now.inverse
 lent_footprint (LentKept k) = footprint k.now.footprint k.now.inverse

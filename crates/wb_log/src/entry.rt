@@ -17,6 +17,7 @@ ghost use Rattle.wb_log.specs.Records.{lent_edit, lent_footprint, shown, kept_of
 ghost use Rattle.wb_log.specs.Sets.{NameAlike};
 
 use crate::array_sets::ArraySets;
+use crate::cells_read::CellsRead;
 use crate::cells_were::CellsWere;
 use std::alloc::Global;
 use std::marker::Model;
@@ -110,6 +111,15 @@ pub(crate) struct FillRecord {
     pub(crate) was: Was,
 }
 
+/// A number as each of the elements at the indices of a rectangle, and what they were, while the edit is in force.
+#[derive(Drop)]
+pub(crate) struct FillsRecord {
+    pub(crate) array: Name,
+    pub(crate) on: AnyRect,
+    pub(crate) value: i64,
+    pub(crate) were: Option<CellsRead>,
+}
+
 /// Sets of elements of one array as one edit, and what the elements were, while the edit is in force.
 #[derive(Drop)]
 pub(crate) struct SetsRecord {
@@ -118,7 +128,7 @@ pub(crate) struct SetsRecord {
 }
 
 /// How an entry is kept. Of all forms but the last, what the edit read, and what takes it back, follow from what the cells held
-/// that it changed: one, or of sets as one edit as many as there are.
+/// that it changed: one, or of sets as one edit, and of a fill, as many as there are.
 #[derive(Drop)]
 pub(crate) enum RecordForm {
     /// A new value of an element that was there.
@@ -133,6 +143,8 @@ pub(crate) enum RecordForm {
     Fill(Box<FillRecord>),
     /// New values of elements that were there, of one array, as one edit.
     Sets(Box<SetsRecord>),
+    /// One number as each of several elements.
+    Fills(Box<FillsRecord>),
     /// Any edit.
     Whole(Box<LoggedEdit>),
 }
@@ -186,6 +198,7 @@ pub(crate) enum LentFootprint<'a> {
     Member([Pattern; 3], Inverse),
     Fill([Pattern; 2], Inverse),
     Sets(&'a CellsWere),
+    Fills(&'a CellsRead),
     Lent(&'a UndoData),
 }
 
@@ -201,6 +214,7 @@ impl<'a> LentFootprint<'a> {
             LentFootprint::Member(reads, _) => (reads, &[]),
             LentFootprint::Fill(reads, _) => (reads, &[]),
             LentFootprint::Sets(were) => were.reads(),
+            LentFootprint::Fills(were) => were.parts(),
             LentFootprint::Lent(kept) => kept.footprint.parts(),
         }
     }
@@ -217,6 +231,7 @@ impl<'a> LentFootprint<'a> {
             LentFootprint::Member(_, inverse) => inverse.before(),
             LentFootprint::Fill(_, inverse) => inverse.before(),
             LentFootprint::Sets(were) => were.before(),
+            LentFootprint::Fills(were) => were.before(),
             LentFootprint::Lent(kept) => kept.inverse.before(),
         }
     }
@@ -418,6 +433,15 @@ impl FillRecord {
     }
 }
 
+impl FillsRecord {
+    /// The edit.
+    pub(crate) fn edit(&self) -> Edit
+        ensures { result ≡ OneCommand (command.Fill self.now.array (asked_for.Ranges self.now.on) self.now.value) }
+    {
+        Edit::Command(Command::Fill(self.array, AskedRectangle::Ranges(self.on), self.value))
+    }
+}
+
 impl RecordForm {
     /// Keeps what the one cell held, or none, where the edit is out of force. One of another form is out of force then.
     pub(crate) fn keep(&mut self, was: Option<Before>)
@@ -431,6 +455,7 @@ impl RecordForm {
             RecordForm::Member(member) => member.was = told,
             RecordForm::Fill(filled) => filled.was = told,
             RecordForm::Sets(sets) => sets.were = None,
+            RecordForm::Fills(fills) => fills.were = None,
             RecordForm::Whole(entry) => entry.kept = None,
         }
     }
@@ -446,6 +471,7 @@ impl RecordForm {
             | RecordForm::Irv(_)
             | RecordForm::Member(_)
             | RecordForm::Fill(_)
+            | RecordForm::Fills(_)
             | RecordForm::Whole(_) => {}
         }
     }
@@ -461,6 +487,7 @@ impl RecordForm {
             RecordForm::Member(member) => Ok(member.edit()),
             RecordForm::Fill(filled) => Ok(filled.edit()),
             RecordForm::Sets(sets) => sets.edit.edit(alloc),
+            RecordForm::Fills(fills) => Ok(fills.edit()),
             RecordForm::Whole(entry) => entry.edit.copy(alloc),
         }
     }
@@ -508,6 +535,7 @@ impl EditRecord {
                 Ok(edit) => Ok(LentEdit::Own(edit)),
                 Err(why) => Err(why),
             },
+            RecordForm::Fills(fills) => Ok(LentEdit::Own(fills.edit())),
             RecordForm::Whole(entry) => Ok(LentEdit::Lent(&entry.edit)),
         }
     }
@@ -521,7 +549,8 @@ impl EditRecord {
             | RecordForm::Copy(_)
             | RecordForm::Irv(_)
             | RecordForm::Member(_)
-            | RecordForm::Fill(_) => None,
+            | RecordForm::Fill(_)
+            | RecordForm::Fills(_) => None,
             RecordForm::Sets(sets) => sets.edit.note(),
             RecordForm::Whole(entry) => entry.edit.note(),
         }
@@ -538,6 +567,7 @@ impl EditRecord {
             RecordForm::Member(member) => member.was.before().is_some(),
             RecordForm::Fill(filled) => filled.was.before().is_some(),
             RecordForm::Sets(sets) => sets.were.is_some(),
+            RecordForm::Fills(fills) => fills.were.is_some(),
             RecordForm::Whole(entry) => entry.kept.is_some(),
         }
     }
@@ -586,6 +616,10 @@ impl EditRecord {
                 None => None,
                 Some(were) => Some(LentFootprint::Sets(were)),
             },
+            RecordForm::Fills(fills) => match &fills.were {
+                None => None,
+                Some(were) => Some(LentFootprint::Fills(were)),
+            },
             RecordForm::Whole(entry) => match &entry.kept {
                 None => None,
                 Some(kept) => Some(LentFootprint::Lent(kept)),
@@ -615,12 +649,7 @@ fn member_undone(domain: &Name, place: &AnyIndex, comes: bool) -> RecordForm
 }
 
 // A fill at the one index of a rectangle, out of force.
-fn fill_undone(
-    alloc: Global,
-    array: &Name,
-    on: &AnyRect,
-    value: i64,
-) -> Result<RecordForm, NoMemory>
+fn one_filled(alloc: Global, array: &Name, on: &AnyRect, value: i64) -> Result<RecordForm, NoMemory>
     ensures { IfOk result (λ f. shown f ≡ record { edit = OneCommand (command.Fill array.now (asked_for.Ranges on.now) value); kept = None }) }
 {
     let filled = FillRecord {
@@ -632,12 +661,46 @@ fn fill_undone(
     Ok(RecordForm::Fill(Box::new(alloc, filled)?))
 }
 
-// The ranges that are asked for, where they have one index.
-fn ranges_of_one(asked: &AskedRectangle) -> Option<AnyRect>
+// A fill at several indices of a rectangle, out of force.
+fn several_filled(
+    alloc: Global,
+    array: &Name,
+    on: &AnyRect,
+    value: i64,
+) -> Result<RecordForm, NoMemory>
+    ensures { IfOk result (λ f. shown f ≡ record { edit = OneCommand (command.Fill array.now (asked_for.Ranges on.now) value); kept = None }) }
+{
+    let filled = FillsRecord {
+        array: *array,
+        on: *on,
+        value,
+        were: None,
+    };
+    Ok(RecordForm::Fills(Box::new(alloc, filled)?))
+}
+
+// A fill at the indices of a rectangle, out of force.
+fn fill_undone(
+    alloc: Global,
+    array: &Name,
+    on: &AnyRect,
+    value: i64,
+) -> Result<RecordForm, NoMemory>
+    ensures { IfOk result (λ f. shown f ≡ record { edit = OneCommand (command.Fill array.now (asked_for.Ranges on.now) value); kept = None }) }
+{
+    if on.size() == 1 {
+        one_filled(alloc, array, on, value)
+    } else {
+        several_filled(alloc, array, on, value)
+    }
+}
+
+// The ranges that are asked for, where they have an index.
+fn ranges_of_some(asked: &AskedRectangle) -> Option<AnyRect>
     ensures { IfSome result (λ on. asked.now ≡ asked_for.Ranges on) }
 {
     match asked {
-        AskedRectangle::Ranges(on) => { if on.size() == 1 { Some(*on) } else { None } }
+        AskedRectangle::Ranges(on) => { if on.size() == 0 { None } else { Some(*on) } }
         AskedRectangle::Indices => None,
     }
 }
@@ -711,7 +774,7 @@ fn form_undone(alloc: Global, edit: Edit) -> Result<RecordForm, NoMemory>
         }
         Edit::Command(Command::Add(domain, place)) => Ok(member_undone(domain, place, true)),
         Edit::Command(Command::Remove(domain, place)) => Ok(member_undone(domain, place, false)),
-        Edit::Command(Command::Fill(array, asked, value)) => match ranges_of_one(asked) {
+        Edit::Command(Command::Fill(array, asked, value)) => match ranges_of_some(asked) {
             Some(on) => fill_undone(alloc, array, &on, *value),
             None => whole_undone(alloc, edit),
         },

@@ -6,6 +6,7 @@
 
 mod array_sets;
 mod blockers;
+mod cells_read;
 mod cells_were;
 mod entry;
 mod index;

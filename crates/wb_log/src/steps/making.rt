@@ -12,7 +12,7 @@ ghost use Rattle.wb_log.specs.Records.{shown, kept_of, held_of, cell_before, val
 
 use crate::cells_were::CellsWere;
 use crate::entry::{Before, EditRecord, LoggedEdit, RecordForm, UndoData};
-use crate::steps::held;
+use crate::steps::{filling, held};
 use std::alloc::Global;
 use wb_arrays::Mover;
 use wb_book::Book;
@@ -198,6 +198,7 @@ fn old_of(
             footprint,
         ),
         RecordForm::Sets(_) => None,
+        RecordForm::Fills(_) => None,
         RecordForm::Whole(_) => None,
     }
 }
@@ -305,6 +306,32 @@ fn make_unlike<M: Mover>(
     }
 }
 
+// Makes the changes, and keeps what takes them back: of a fill of several elements the numbers that these were, and else all.
+fn make_several<M: Mover>(
+    alloc: Global,
+    book: &mut Book,
+    form: &mut RecordForm,
+    delta: Delta,
+    footprint: ReadFootprint,
+    mover: &M,
+) -> Result<(), NoMemory>
+    requires well_formed { IsWellFormed (apply delta book.old.cells) }
+    ensures form { OnOk result (shown form.new ≡ record {
+      edit = (shown form.old).edit;
+      kept =
+          Some (record { footprint = footprint; inverse = inverse delta book.old.cells });
+    }) }
+    ensures cells { OnOk result (book.new.cells ≡ apply delta book.old.cells) }
+    ensures writes { OnOk result (book.new.writes ≡ saturating_add book.old.writes (count_of delta)) }
+    ensures form_stays { OnErr result (shown form.new ≡ shown form.old) }
+    ensures book_stays { OnErr result (book.new ≡ book.old) }
+{
+    match filling::fill_in(form, &delta, &footprint) {
+        None => make_unlike(alloc, book, form, delta, footprint, mover),
+        Some(fills) => filling::make_fill(alloc, book, form, &fills, delta, footprint, mover),
+    }
+}
+
 // Makes the changes, and keeps what takes them back: what the one cell held, where all else follows from it.
 fn make_one<M: Mover>(
     alloc: Global,
@@ -326,7 +353,7 @@ fn make_one<M: Mover>(
     ensures book_stays { OnErr result (book.new ≡ book.old) }
 {
     match old_of(book, form, &delta, &footprint) {
-        None => make_unlike(alloc, book, form, delta, footprint, mover),
+        None => make_several(alloc, book, form, delta, footprint, mover),
         Some(was) => match book.apply(delta, mover) {
             Err(_) => Err(NoMemory),
             Ok(_) => {

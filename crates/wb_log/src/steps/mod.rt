@@ -3,6 +3,7 @@
 mod append;
 mod cascade;
 mod edit;
+mod filling;
 mod held;
 pub(crate) mod making;
 mod redo;
