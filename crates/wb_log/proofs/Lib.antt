@@ -19,4 +19,6 @@ pub mod Alike
 pub mod Held
 pub mod Filled
 pub mod Free
+pub mod Meets
+pub mod SetBack
 pub mod Appended

@@ -13,6 +13,7 @@ mod index;
 mod log;
 mod steps;
 mod sweep;
+mod undone;
 
 pub use crate::entry::LentEdit;
 pub use crate::log::Log;

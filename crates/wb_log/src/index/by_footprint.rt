@@ -2,17 +2,19 @@
 
 ghost use Rattle.std.specs.Prelude.{◌≡◌, ℕ, ◌+◌, ◌^◌, ◌<◌, length, drop, Some, None, OnOk, OnErr, IfOk};
 ghost use Rattle.selective_undo.specs.Log.{blocks_undo, blocks_redo, first_from};
+ghost use Rattle.wb_cells.specs.declared.cells.cell.Cell.TheVariants as cell;
+ghost use Rattle.wb_log.specs.declared.entry.Before.{Before};
 ghost use Rattle.wb_footprints.specs.Footprints.{Footprints, IsIndexOf, footprint, with_footprint};
 ghost use Rattle.wb_log.specs.Indexed.{IsByFootprint};
 ghost use Rattle.wb_log.specs.Kept.{by_number, kept_in, kept_all};
-ghost use Rattle.wb_log.specs.Records.{lent_footprint};
+ghost use Rattle.wb_log.specs.Records.{lent_footprint, element_reads, cell_before};
 ghost use Rattle.wb_log.specs.Needed.{AreFromFootprints};
 
 use crate::blockers;
-use crate::entry::{EditRecord, LentFootprint};
+use crate::entry::{Before, EditRecord, LentFootprint, SetRecord};
 use crate::sweep::needing;
 use std::alloc::Global;
-use wb_cells::Changes;
+use wb_cells::{Cell, CellChange, Changes};
 use wb_edit::ReadFootprint;
 use wb_footprints::FootIndex;
 use wb_range::NoMemory;
@@ -89,6 +91,28 @@ impl ByFootprint {
         self.index.first_to_block_undo(before, at as u64 + 1)
     }
 
+    /// The number of the first edit after a place that needs one that wrote a cell.
+    pub(crate) fn first_to_meet(
+        &mut self,
+        entries: &[EditRecord],
+        at: usize,
+        target: &Cell,
+    ) -> Option<u64>
+        requires in_log { at < length entries.now }
+        requires few { length entries.now < 2 ^ 63 }
+        requires indexed { IsByFootprint self.old (length entries.now) (by_number entries.now) }
+        ensures first { (was : Before) → result ≡ first_from (blocks_undo (cell_before target.now was)) (at + 2) (drop (at + 1) (kept_all entries.now)) }
+        ensures indexed { IsByFootprint self.new (length entries.now) (by_number entries.now) }
+    {
+        self.fill(entries);
+        if self.entered < entries.len() {
+            let later = later_than(entries, at);
+            let one = Changes::one(CellChange::new(*target, None));
+            return blockers::first_to_block_undo(later, at as u64 + 2, &one);
+        }
+        self.index.met_after(target, at as u64 + 1)
+    }
+
     /// The number of the first edit after a place that needs, or is needed by, one with these reads and changes.
     pub(crate) fn first_to_block_redo(
         &mut self,
@@ -140,6 +164,20 @@ impl ByFootprint {
     {
         if at < self.entered {
             take_kept(&mut self.index, at as u64 + 1, kept);
+        }
+    }
+
+    /// The same of a new value of an element, by what the element was.
+    pub(crate) fn set_left_force(&mut self, at: usize, element: &SetRecord, was: &Before)
+        requires { at < 2 ^ 63 }
+        ensures { (count : ℕ) (footprints : Footprints) → IsByFootprint self.old count footprints →
+            footprints (at + 1) ≡ Some (footprint (element_reads element.now.array element.now.place)
+            (cell_before (cell.Element element.now.array element.now.place) was.now)) →
+            IsByFootprint self.new count (with_footprint footprints (at + 1) None) }
+    {
+        if at < self.entered {
+            self.index
+                .take_one(at as u64 + 1, &element.reads(), &element.cell());
         }
     }
 

@@ -6,11 +6,12 @@ mod by_footprint;
 mod in_force;
 
 ghost use Rattle.std.specs.Prelude.{◌≡◌, ℕ, ◌+◌, ◌^◌, ◌<◌, Some, None};
-ghost use Rattle.wb_footprints.specs.Footprints.{Footprints, with_footprint};
+ghost use Rattle.wb_cells.specs.declared.cells.cell.Cell.TheVariants as cell;
+ghost use Rattle.wb_footprints.specs.Footprints.{Footprints, footprint, with_footprint};
 ghost use Rattle.wb_log.specs.Indexed.{Indexes};
-ghost use Rattle.wb_log.specs.Records.{lent_footprint};
+ghost use Rattle.wb_log.specs.Records.{lent_footprint, element_reads, cell_before};
 
-use crate::entry::LentFootprint;
+use crate::entry::{Before, LentFootprint, SetRecord};
 use crate::index::by_footprint::ByFootprint;
 use crate::index::in_force::InForce;
 use std::alloc::Global;
@@ -49,6 +50,18 @@ impl EditIndex {
             Indexes self.new count (with_footprint footprints (at + 1) None) }
     {
         self.by_footprint.left_force(at, kept);
+        self.in_force.left_force(at);
+    }
+
+    /// The same of a new value of an element, by what the element was.
+    pub(crate) fn set_left_force(&mut self, at: usize, element: &SetRecord, was: &Before)
+        requires { at < 2 ^ 63 }
+        ensures { (count : ℕ) (footprints : Footprints) → Indexes self.old count footprints →
+            footprints (at + 1) ≡ Some (footprint (element_reads element.now.array element.now.place)
+            (cell_before (cell.Element element.now.array element.now.place) was.now)) →
+            Indexes self.new count (with_footprint footprints (at + 1) None) }
+    {
+        self.by_footprint.set_left_force(at, element, was);
         self.in_force.left_force(at);
     }
 

@@ -7,5 +7,6 @@ mod filling;
 mod held;
 pub(crate) mod making;
 mod redo;
+mod straight;
 mod undo;
 pub(crate) mod undoer;

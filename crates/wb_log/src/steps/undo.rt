@@ -10,12 +10,30 @@ ghost use Rattle.wb_log.specs.Replies.{UndoReply, LastReply, SetsBack, LeavesOth
 use crate::entry::EditRecord;
 use crate::index::EditIndex;
 use crate::log::Log;
+use crate::steps::straight;
 use wb_arrays::Mover;
 use wb_book::Book;
 use wb_edit::Refusal;
 
 /// Why the edit at a place may not be undone.
 fn undo_refusal(entries: &[EditRecord], index: &mut EditIndex, at: usize) -> Option<Refusal>
+    requires in_log { at < length entries.now }
+    requires few { length entries.now < 2 ^ 63 }
+    requires indexed { IsIndexed index.old entries.now }
+    ensures refusal { MayUndo entries.now at result }
+    ensures indexed { IsIndexed index.new entries.now }
+{
+    match entries[at].element_set() {
+        None => undo_refusal_listed(entries, index, at),
+        Some(set) => match index.by_footprint.first_to_meet(entries, at, &set.0) {
+            Some(by) => Some(Refusal::Blocked(by)),
+            None => None,
+        },
+    }
+}
+
+/// The same by the list of what the cells were.
+fn undo_refusal_listed(entries: &[EditRecord], index: &mut EditIndex, at: usize) -> Option<Refusal>
     requires in_log { at < length entries.now }
     requires few { length entries.now < 2 ^ 63 }
     requires indexed { IsIndexed index.old entries.now }
@@ -36,6 +54,35 @@ fn undo_refusal(entries: &[EditRecord], index: &mut EditIndex, at: usize) -> Opt
 
 /// Sets back what the edit at a place, which is in force, wrote. Want of threads is answered as want of memory.
 fn take_back<M: Mover>(
+    book: &mut Book,
+    entry: &mut EditRecord,
+    index: &mut EditIndex,
+    at: usize,
+    mover: &M,
+) -> Result<usize, Refusal>
+    // What the edit wrote can be set back.
+    requires few { at < 2 ^ 63 }
+    requires well_formed { LeavesWellFormed entry.old book.old.cells }
+
+    // How many cells are set back, or why none is; the index has the edit no more.
+    ensures ok { IfOk result (λ n. TakenBack entry.old n entry.new book.old book.new) }
+    ensures why { IfErr result (λ e. e ≡ refusal_of entry.old) }
+    ensures taken { OnOk result ((count : ℕ) (footprints : Footprints) → Indexes index.old count footprints → footprints (at + 1) ≡ kept_in entry.old →
+        Indexes index.new count (with_footprint footprints (at + 1) None)) }
+
+    // After a refusal nothing has changed.
+    ensures entry_stays { OnErr result (entry.new ≡ entry.old) }
+    ensures book_stays { OnErr result (book.new ≡ book.old) }
+    ensures index_stays { OnErr result (index.new ≡ index.old) }
+{
+    if straight::set_back(book, entry, index, at) {
+        return Ok(1);
+    }
+    take_back_listed(book, entry, index, at, mover)
+}
+
+/// The same by the list of what the cells were.
+fn take_back_listed<M: Mover>(
     book: &mut Book,
     entry: &mut EditRecord,
     index: &mut EditIndex,

@@ -1,7 +1,13 @@
-use Rattle.std.proofs.Common.{option_map, sym, ap, ◌∙◌}
-use Rattle.wb_log.specs.Records.{lent_footprint}
+use Rattle.std.proofs.Common.{sym, ap, subst, ◌∙◌}
+use Rattle.std.proofs.lemmas.Result.{on_ok_weaker}
+use Rattle.wb_log.specs.Indexed.{Indexes}
+use Rattle.wb_log.specs.Kept.{kept_in}
 use Rattle.wb_log.proofs.steps.undo.take_back.Goals as goal
 
 pub returns-clause-taken : goal.returns-clause-taken
-returns-clause-taken g c = λ count footprints h is.
-    c.left_force.ensures count footprints h (is ∙ sym c.kept.ensures ∙ ap (option_map lent_footprint) c.in-Some.is)
+returns-clause-taken g c =
+    let same = c.set_back.ensures.index_stays c.if-set_back.false in
+    let entry = c.set_back.ensures.entry_stays c.if-set_back.false in
+    on_ok_weaker c.take_back_listed.result
+    (λ h count footprints had is. h count footprints (subst (λ i. Indexes i count footprints) (sym same) had) (is ∙ ap kept_in (sym entry)))
+    c.take_back_listed.ensures.taken
