@@ -20,13 +20,13 @@ pub record IsByFootprint (by_footprint : ByFootprint) (count : ℕ) (footprints 
   pub within : by_footprint.entered ≤ count
   pub index : IsIndexOf by_footprint.index (up_to by_footprint.entered footprints)
 
--- The same of the numbers that have a footprint.
+-- Numbers begin at 1, at most `count` have entered, and the set is of those that have a footprint.
 pub record AreInForce (in_force : InForce) (count : ℕ) (footprints : Footprints) : Type 0 where
   pub from_1 : footprints 0 ≡ None
   pub within : in_force.entered ≤ count
   pub numbers : (k : ℕ) → numbered in_force.numbers k ≡ is_some (up_to in_force.entered footprints k)
 
--- The same of both: each index is of as much as has entered it.
+-- Both are so: each index is of as much as has entered it.
 pub record Indexes (index : EditIndex) (count : ℕ) (footprints : Footprints) : Type 0 where
   pub by_footprint : IsByFootprint index.by_footprint count footprints
   pub in_force : AreInForce index.in_force count footprints

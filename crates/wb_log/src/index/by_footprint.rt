@@ -167,7 +167,7 @@ impl ByFootprint {
         }
     }
 
-    /// The same of a new value of an element, by what the element was.
+    /// The edit at a place, a new value of an element, is out of force.
     pub(crate) fn set_left_force(&mut self, at: usize, element: &SetRecord, was: &Before)
         requires { at < 2 ^ 63 }
         ensures { (count : ℕ) (footprints : Footprints) → IsByFootprint self.old count footprints →

@@ -53,7 +53,7 @@ impl EditIndex {
         self.in_force.left_force(at);
     }
 
-    /// The same of a new value of an element, by what the element was.
+    /// The edit at a place, a new value of an element that was in force, no longer is.
     pub(crate) fn set_left_force(&mut self, at: usize, element: &SetRecord, was: &Before)
         requires { at < 2 ^ 63 }
         ensures { (count : ℕ) (footprints : Footprints) → Indexes self.old count footprints →

@@ -135,7 +135,7 @@ fn add_numbers<const R: usize>(
     true
 }
 
-// The same of changes of any row.
+// Adds the numbers that changes at points set, of any row; false where one is of another cell or sets none, or no memory is left.
 fn add_packed<const R: usize>(numbers: &mut Vec<i64>, packed: &Packed<R>) -> bool
     requires { R ≤ 3 }
     ensures { result ≡ true → values_of numbers.new.items ≡
@@ -147,7 +147,7 @@ fn add_packed<const R: usize>(numbers: &mut Vec<i64>, packed: &Packed<R>) -> boo
     }
 }
 
-// The same of a number for each index of a rectangle.
+// Adds the numbers of changes at each index of a rectangle; false where one is of another cell, or no memory is left.
 fn add_block(numbers: &mut Vec<i64>, block: &RectangleNumbers) -> bool
     ensures { result ≡ true → values_of numbers.new.items ≡
         values_of numbers.old.items ++ values_in (packed_changes block.now.row (numbered_entries block.now.ranges block.now.numbers.items)) }
@@ -161,7 +161,7 @@ fn add_block(numbers: &mut Vec<i64>, block: &RectangleNumbers) -> bool
     }
 }
 
-// The same of a run; false where it is of another kind.
+// Adds the numbers that the changes of a run set; false where it is of another kind, or no memory is left.
 fn add_run(numbers: &mut Vec<i64>, form: &RunForm) -> bool
     ensures { result ≡ true → values_of numbers.new.items ≡ values_of numbers.old.items ++ values_in (changes_in form.now) }
 {

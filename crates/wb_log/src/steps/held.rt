@@ -80,7 +80,7 @@ fn held_at<const R: usize>(
     }
 }
 
-// The same of a run of changes.
+// The changes that set back those of a run; none where they are of other cells than elements, or one is not there.
 fn held_run(alloc: Global, book: &Book, changed: &RunForm) -> Result<Option<RunForm>, NoMemory>
     ensures { IfOk result (λ o. IfSome o (λ f. changes_in f ≡ inverse (changes_in changed.now) book.now.cells)) }
 {

@@ -27,7 +27,7 @@ pub(crate) fn is_same(a: &Cell, b: &Cell) -> bool
     *a == *b
 }
 
-// Whether the patterns are equal. It may miss that, but not the other way round.
+// True only where the patterns are equal; false tells nothing.
 pub(crate) fn is_same_pattern(pattern: &Pattern, other: &Pattern) -> bool
     ensures { result ≡ true → pattern.now ≡ other.now }
 {

@@ -32,7 +32,7 @@ fn undo_refusal(entries: &[EditRecord], index: &mut EditIndex, at: usize) -> Opt
     }
 }
 
-/// The same by the list of what the cells were.
+/// Why the edit at a place may not be undone, by the list of what its cells were.
 fn undo_refusal_listed(entries: &[EditRecord], index: &mut EditIndex, at: usize) -> Option<Refusal>
     requires in_log { at < length entries.now }
     requires few { length entries.now < 2 ^ 63 }
@@ -81,7 +81,7 @@ fn take_back<M: Mover>(
     take_back_listed(book, entry, index, at, mover)
 }
 
-/// The same by the list of what the cells were.
+/// Sets back what the edit at a place, which is in force, wrote, by the list of what the cells were.
 fn take_back_listed<M: Mover>(
     book: &mut Book,
     entry: &mut EditRecord,
