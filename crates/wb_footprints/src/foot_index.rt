@@ -13,7 +13,7 @@ use std::alloc::Global;
 use wb_cells::{Cell, Changes, Pattern, ReadRun};
 use wb_range::NoMemory;
 
-/// An index of footprints by the cells that they read and touched. It owns none: its contracts speak of those that it
+/// An index of footprints by the cells that they read and touched. It has no footprint in it: its contracts speak of those that it
 /// is of.
 pub struct FootIndex {
     pub(crate) touched: PlaceMarks,
@@ -75,7 +75,7 @@ impl FootIndex {
         unmark_reads(&mut self.read, reads, runs, number);
     }
 
-    /// The same of an edit that touched one cell, by that cell.
+    /// Takes away the footprint of a number that touched one cell, by what it read and that cell.
     pub fn take_one(&mut self, number: u64, reads: &[Pattern], cell: &Cell)
         ensures { (footprints : Footprints) (before : Option Value) → IsIndexOf self.old footprints →
             footprints number ≡ Some (footprint reads.now (record { cell = cell.now; value = before } ∷ [])) →
