@@ -8,7 +8,7 @@ use Rattle.std.specs.FinMap.Entries.{where_key, is_sorted-where_key, find-where_
 use Rattle.std.specs.declared.cmp.Ordering.{Ordering}
 use Rattle.selective_undo.specs.declared.Change as declared
 use Rattle.selective_undo.specs.Changes.{IsOrder, applied, apply, inverse}
-use Rattle.selective_undo.specs.Edit.{Schema, State, Edit, refuse, write, look, written, outcome, reads, trace, step}
+use Rattle.selective_undo.specs.Edit.{Schema, State, EditTree, refuse, write, look, written, outcome, reads, trace, step}
 use Rattle.selective_undo.specs.History.{Entry, done, undone, replay, replay_from, traces, traces_from}
 use Rattle.selective_undo.specs.Laws.{EvaluateEditLaw, EvaluateHistoryLaw}
 use Rattle.selective_undo.specs.Evaluation.{put_in, apply_in, inverse_in, outcome_in, reads_in, trace_in, step_in, replay_in, traces_in}
@@ -61,20 +61,20 @@ module _ {K V : Type 0} {order : K → K → Ordering} (ordered : IsOrder order)
 module _ {w : Schema} where
   -- ---- these are the outcomes, traces and replays of the theory
 
-  pub outcome-entries : (e : Edit w) (s : State w) → outcome e s ≡ outcome_in e (entries s)
+  pub outcome-entries : (e : EditTree w) (s : State w) → outcome e s ≡ outcome_in e (entries s)
   outcome-entries (refuse why) s = refl
   outcome-entries (write xs) s = refl
   outcome-entries (look p next) s = rw (entries-retain_keys w.is_order s (w.matches p)) (outcome-entries (next _) s)
 
-  pub reads-entries : (e : Edit w) (s : State w) → reads e s ≡ reads_in e (entries s)
+  pub reads-entries : (e : EditTree w) (s : State w) → reads e s ≡ reads_in e (entries s)
   reads-entries (refuse why) s = refl
   reads-entries (write xs) s = refl
   reads-entries (look p next) s = rw (entries-retain_keys w.is_order s (w.matches p)) (ap (λ ps. p ∷ ps) (reads-entries (next _) s))
 
-  pub trace-entries : (e : Edit w) (s : State w) → trace e s ≡ trace_in e (entries s)
+  pub trace-entries : (e : EditTree w) (s : State w) → trace e s ≡ trace_in e (entries s)
   trace-entries e s = rw (reads-entries e s, outcome-entries e s, inverse-entries w.is_order (written (outcome_in e (entries s))) s)
 
-  pub step-entries : (e : Edit w) (s : State w) → entries (step e s) ≡ step_in e (entries s)
+  pub step-entries : (e : EditTree w) (s : State w) → entries (step e s) ≡ step_in e (entries s)
   step-entries e s = entries-apply w.is_order (written (outcome e s)) s ∙ ap (λ o. apply_in w.order (written o) (entries s)) (outcome-entries e s)
 
   pub replay-entries : (h : List (Entry w)) (s : State w) → entries (replay_from h s) ≡ replay_in h (entries s)

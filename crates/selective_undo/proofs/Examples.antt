@@ -3,7 +3,7 @@ use Rattle.std.proofs.Common.{◌≡◌, ℕ, ◌+◌, Bool, true, false, List, 
 use Rattle.std.specs.Ordering.{nat_cmp}
 use Rattle.std.specs.Cmp.{nat_cmp_total}
 use Rattle.std.specs.FinMap.{entries, nat_cmp-IsAntisymmetric}
-use Rattle.selective_undo.specs.Edit.{Schema, Seen, Change, Edit, Trace, refuse, write, look, needs}
+use Rattle.selective_undo.specs.Edit.{Schema, Seen, Change, EditTree, Trace, refuse, write, look, needs}
 use Rattle.selective_undo.specs.History.{Entry, done, undone, replay, traces, undo, redo, dependents}
 use Rattle.selective_undo.specs.Evaluation.{trace_in}
 use Rattle.selective_undo.specs.Together.{all_of}
@@ -39,7 +39,7 @@ abbrev off : ℕ → Change numbers
 off c = record { cell = c; value = None }
 
 -- cell c gets value v, whatever it has
-abbrev set : ℕ → ℕ → Edit numbers
+abbrev set : ℕ → ℕ → EditTree numbers
 set c v = write (to c v ∷ [])
 
 -- all cells are cleared
@@ -47,15 +47,15 @@ abbrev cleared : Seen numbers → List (Change numbers)
 cleared [] = []
 cleared (d ∷ ds) = off d.0 ∷ cleared ds
 
-abbrev clear_all : Edit numbers
+abbrev clear_all : EditTree numbers
 clear_all = look anywhere (λ ds. write (cleared ds))
 
 -- cell d gets the value of cell c and one more, and is left as it is where c is absent
-abbrev put_more : ℕ → Seen numbers → Edit numbers
+abbrev put_more : ℕ → Seen numbers → EditTree numbers
 put_more d [] = refuse absent
 put_more d (x ∷ xs) = set d (x.1 + 1)
 
-abbrev copy : ℕ → ℕ → Edit numbers
+abbrev copy : ℕ → ℕ → EditTree numbers
 copy c d = look (at c) (put_more d)
 
 -- what an edit did that looked at patterns ps and wrote xs over ys
@@ -117,7 +117,7 @@ nothing_there = refl
 -- ---- a transaction
 
 -- cell 1 gets 5, cell 2 gets one more than cell 1, and cell 1 gets 8
-abbrev three : Edit numbers
+abbrev three : EditTree numbers
 three = all_of in_place (set 1 5 ∷ copy 1 2 ∷ set 1 8 ∷ [])
 
 -- the copy sees the 5; each cell is written once, and cell 1 was 4 before
@@ -125,7 +125,7 @@ three_made : trace_in three ((1, 4) ∷ (3, 7) ∷ []) ≡ did (at 1 ∷ []) (to
 three_made = refl
 
 -- the second copy finds nothing: no cell is written, and the refusal has its place
-abbrev halted : Edit numbers
+abbrev halted : EditTree numbers
 halted = all_of in_place (set 1 5 ∷ copy 1 2 ∷ copy 4 3 ∷ copy 5 3 ∷ [])
 
 none_made : trace_in halted [] ≡ record { reads = at 1 ∷ at 4 ∷ []; outcome = Err (in_place 2 absent); before = [] }

@@ -1,12 +1,12 @@
 -- What every accepted edit keeps holds after every legal history.
 use Rattle.std.proofs.Common.{◌≡◌, ℕ, zero, suc, true, List, [], ◌∷◌, Some, IsOk, refl, slice_get}
 use Rattle.std.specs.FinMap.{empty}
-use Rattle.selective_undo.specs.Edit.{Schema, State, Edit, Trace, outcome, step}
+use Rattle.selective_undo.specs.Edit.{Schema, State, EditTree, Trace, outcome, step}
 use Rattle.selective_undo.specs.History.{Entry, done, undone, edit_of, replay_from, traces_from, replay, InForce, IsLegal}
 use Rattle.selective_undo.specs.Laws.{InvariantLaw}
 
-module _ {w : Schema} (Allowed : Edit w → Type 0) (Good : State w → Type 0)
-    (keeps : (e : Edit w) (s : State w) → Allowed e → Good s → IsOk (outcome e s) → Good (step e s)) where
+module _ {w : Schema} (Allowed : EditTree w → Type 0) (Good : State w → Type 0)
+    (keeps : (e : EditTree w) (s : State w) → Allowed e → Good s → IsOk (outcome e s) → Good (step e s)) where
   good_from : (h : List (Entry w)) (s : State w) → Good s → ((k : ℕ) (t : Trace w) → InForce (traces_from h s) k t → IsOk t.outcome)
       → ((k : ℕ) (x : Entry w) → slice_get h k ≡ Some x → Allowed (edit_of x)) → Good (replay_from h s)
   good_from [] s good legal allowed = good

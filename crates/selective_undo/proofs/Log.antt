@@ -3,7 +3,7 @@ use Rattle.std.proofs.Common.{◌≡◌, ℕ, zero, suc, ◌+◌, ◌<◌, ◌�
 use Rattle.std.proofs.Common.{false, ◌||◌, Ok, IsOk, is_ok, slice_get, slice_set, drop, arith, inl, inr, ◌⊎◌, if◌then◌else◌}
 use Rattle.selective_undo.specs.Changes.{apply, inverse, changes}
 use Rattle.selective_undo.proofs.Changes.{changes-inverse}
-use Rattle.selective_undo.specs.Edit.{Schema, State, Change, Edit, Trace, covers, outcome, reads, written, trace, needs, Needs}
+use Rattle.selective_undo.specs.Edit.{Schema, State, Change, EditTree, Trace, covers, outcome, reads, written, trace, needs, Needs}
 use Rattle.selective_undo.specs.History.{Entry, done, undone, replay, traces, undo, redo, InForce, IsLegal, Blocks, CanUndo, CanRedo}
 use Rattle.selective_undo.specs.Log.{Footprint, Logged, footprint_of, footprints, entry_of, history, meets_any, blocks_undo, blocks_redo, planned, first_from}
 use Rattle.selective_undo.specs.Log.{IsKept, Least, BlocksRedo}
@@ -225,19 +225,19 @@ module _ {w : Schema} where
   any_inverse f [] s = refl
   any_inverse f (x ∷ xs) s = ap (λ b. (changes w.order f.touched x.cell || covers w f.reads x.cell) || b) (any_inverse f xs s)
 
-  any_planned : (e : Edit w) (s : State w) (ys : List (Change w)) → meets_any (planned e s) ys ≡ meets_any (footprint_of (trace e s)) ys
+  any_planned : (e : EditTree w) (s : State w) (ys : List (Change w)) → meets_any (planned e s) ys ≡ meets_any (footprint_of (trace e s)) ys
   any_planned e s [] = refl
   any_planned e s (y ∷ ys) =
       ap (λ b. (b || covers w (reads e s) y.cell) || meets_any (planned e s) ys) (sym (changes-inverse (written (outcome e s)) s y.cell))
       ∙ ap (λ b. (changes w.order (trace e s).before y.cell || covers w (reads e s) y.cell) || b) (any_planned e s ys)
 
-  pub same_blocks : (e : Edit w) (s : State w) (o : Option (Footprint w)) → blocks_redo (planned e s) o ≡ blocks_redo (footprint_of (trace e s)) o
+  pub same_blocks : (e : EditTree w) (s : State w) (o : Option (Footprint w)) → blocks_redo (planned e s) o ≡ blocks_redo (footprint_of (trace e s)) o
   same_blocks e s None = refl
   same_blocks e s (Some f) =
       ap (λ b. b || meets_any (planned e s) f.touched) (sym (any_inverse f (written (outcome e s)) s))
       ∙ ap (λ b. meets_any f (trace e s).before || b) (any_planned e s f.touched)
 
-  pub first_planned : (e : Edit w) (s : State w) (i : ℕ) (fs : List (Option (Footprint w))) →
+  pub first_planned : (e : EditTree w) (s : State w) (i : ℕ) (fs : List (Option (Footprint w))) →
       first_from (blocks_redo (planned e s)) i fs ≡ first_from (blocks_redo (footprint_of (trace e s))) i fs
   first_planned e s i [] = refl
   first_planned e s i (o ∷ fs) = rw (same_blocks e s o, first_planned e s (i + 1) fs)
@@ -250,17 +250,17 @@ module _ {w : Schema} where
   entry_at : (log : List (Logged w)) (k : ℕ) (x : Logged w) → slice_get log k ≡ Some x → slice_get (history log) k ≡ Some (entry_of x)
   entry_at log k x is = get-map entry_of log k ∙ ap (option_map entry_of) is
 
-  pub set_undo : (h : List (Entry w)) (k : ℕ) (e : Edit w) → slice_get h k ≡ Some (done e) → undo k h ≡ slice_set h k (undone e)
+  pub set_undo : (h : List (Entry w)) (k : ℕ) (e : EditTree w) → slice_get h k ≡ Some (done e) → undo k h ≡ slice_set h k (undone e)
   set_undo [] k e is = refl
   set_undo (x ∷ h) zero e is = let same : x ≡ done e = cc in rw same
   set_undo (x ∷ h) (suc k) e is = ap (λ r. x ∷ r) (set_undo h k e is)
 
-  pub set_redo : (h : List (Entry w)) (k : ℕ) (e : Edit w) → slice_get h k ≡ Some (undone e) → redo k h ≡ slice_set h k (done e)
+  pub set_redo : (h : List (Entry w)) (k : ℕ) (e : EditTree w) → slice_get h k ≡ Some (undone e) → redo k h ≡ slice_set h k (done e)
   set_redo [] k e is = refl
   set_redo (x ∷ h) zero e is = let same : x ≡ undone e = cc in rw same
   set_redo (x ∷ h) (suc k) e is = ap (λ r. x ∷ r) (set_redo h k e is)
 
-  pub accepted_append : (h : List (Entry w)) (e : Edit w) → IsLegal h → IsOk (outcome e (replay h)) → IsLegal (h ++ done e ∷ [])
+  pub accepted_append : (h : List (Entry w)) (e : EditTree w) → IsLegal h → IsOk (outcome e (replay h)) → IsLegal (h ++ done e ∷ [])
   accepted_append h e legal accepted j u is =
       elim (last_or (traces h) (Some (trace e (replay h))) (Some u) j (subst (λ ts. InForce ts j u) (append_law w h e).1 is)) [
         | inl last ↦ (let same : u ≡ trace e (replay h) = cc in rw same accepted)
@@ -268,7 +268,7 @@ module _ {w : Schema} where
       ]
 
   -- an edit comes
-  pub kept_append : (s : State w) (log : List (Logged w)) (e : Edit w) (xs : List (Change w)) → IsKept s log → outcome e s ≡ Ok xs
+  pub kept_append : (s : State w) (log : List (Logged w)) (e : EditTree w) (xs : List (Change w)) → IsKept s log → outcome e s ≡ Ok xs
       → IsKept (apply xs s) (log ++ record { edit = e; kept = Some (record { reads = reads e s; touched = inverse xs s }) } ∷ [])
   kept_append s log e xs kept accepted =
       let h = history log in
@@ -287,13 +287,13 @@ module _ {w : Schema} where
       }
 
   -- the traces of a kept log
-  pub trace_there : (s : State w) (log : List (Logged w)) (k : ℕ) (e : Edit w) (f : Footprint w) → IsKept s log →
+  pub trace_there : (s : State w) (log : List (Logged w)) (k : ℕ) (e : EditTree w) (f : Footprint w) → IsKept s log →
       slice_get log k ≡ Some (record { edit = e; kept = Some f }) → (t : Trace w) × InForce (traces (history log)) k t × (footprint_of t ≡ f)
   trace_there s log k e f kept is = trace_of (traces (history log)) k f
       (ap (λ fs. slice_get fs k) (sym kept.footprints) ∙ kept_at log k (record { edit = e; kept = Some f }) is)
 
   -- an edit is undone
-  pub kept_undo : (s : State w) (log : List (Logged w)) (k i : ℕ) (e : Edit w) (f : Footprint w) → IsKept s log →
+  pub kept_undo : (s : State w) (log : List (Logged w)) (k i : ℕ) (e : EditTree w) (f : Footprint w) → IsKept s log →
       slice_get log k ≡ Some (record { edit = e; kept = Some f })
       → first_from (blocks_undo f.touched) i (drop (suc k) (map (λ x. x.kept) log)) ≡ None
       → ((t : Trace w) × CanUndo (history log) k t × (footprint_of t ≡ f)) × IsKept (apply f.touched s) (slice_set log k (record { edit = e; kept = None }))
@@ -313,7 +313,7 @@ module _ {w : Schema} where
         },
       )
 
-  pub redo_can : (s : State w) (log : List (Logged w)) (k i : ℕ) (e : Edit w) (xs : List (Change w)) → IsKept s log →
+  pub redo_can : (s : State w) (log : List (Logged w)) (k i : ℕ) (e : EditTree w) (xs : List (Change w)) → IsKept s log →
       slice_get log k ≡ Some (record { edit = e; kept = None }) → outcome e s ≡ Ok xs
       → first_from (blocks_redo (planned e s)) i (drop (suc k) (map (λ x. x.kept) log)) ≡ None → CanRedo (history log) k (trace e s)
   redo_can s log k i e xs kept is accepted none =
@@ -329,7 +329,7 @@ module _ {w : Schema} where
       }
 
   -- an edit is redone
-  pub kept_redo : (s : State w) (log : List (Logged w)) (k i : ℕ) (e : Edit w) (xs : List (Change w)) → IsKept s log →
+  pub kept_redo : (s : State w) (log : List (Logged w)) (k i : ℕ) (e : EditTree w) (xs : List (Change w)) → IsKept s log →
       slice_get log k ≡ Some (record { edit = e; kept = None }) → outcome e s ≡ Ok xs
       → first_from (blocks_redo (planned e s)) i (drop (suc k) (map (λ x. x.kept) log)) ≡ None
       → IsKept (apply xs s) (slice_set log k (record { edit = e; kept = Some (record { reads = reads e s; touched = inverse xs s }) }))

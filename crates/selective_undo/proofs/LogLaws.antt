@@ -2,7 +2,7 @@
 use Rattle.std.proofs.Common.{◌≡◌, ℕ, suc, List, map, drop, take, refl, sym, ap, ◌∙◌, subst, Bool, true, false, ◌||◌, ◌⊎◌, Option, Some, None, option_map, inl}
 use Rattle.std.proofs.Common.{inr, Ok, Err, Result, IsOk, slice_get, ◌↔◌, arith}
 use Rattle.std.specs.FinMap.{empty}
-use Rattle.selective_undo.specs.Edit.{Schema, State, Edit, Trace, outcome, trace, Needs}
+use Rattle.selective_undo.specs.Edit.{Schema, State, EditTree, Trace, outcome, trace, Needs}
 use Rattle.selective_undo.specs.Changes.{apply}
 use Rattle.selective_undo.specs.History.{Entry, done, replay, traces, InForce, IsLast, Blocks, CanRedo}
 use Rattle.selective_undo.specs.Log.{Footprint, Logged, meets_any, footprint_of, footprints, entry_of, history, planned, blocks_undo, blocks_redo, first_from}
@@ -54,19 +54,19 @@ module _ {w : Schema} where
   undo_none s log k t kept is e = undo_free (traces (history log)) k (suc k) t is (rw (← kept.footprints) e)
 
   -- the search over what is kept is the search over the traces
-  planned_blocker : (s : State w) (log : List (Logged w)) (k : ℕ) (e : Edit w) → IsKept s log →
+  planned_blocker : (s : State w) (log : List (Logged w)) (k : ℕ) (e : EditTree w) → IsKept s log →
       redo_blocker log k (planned e s) ≡ first_from (blocks_redo (footprint_of (trace e s))) (suc k) (drop (suc k) (footprints (traces (history log))))
   planned_blocker s log k e kept = first_planned e s (suc k) (drop (suc k) (map (λ x. x.kept) log)) ∙
       ap (λ fs. first_from (blocks_redo (footprint_of (trace e s))) (suc k) (drop (suc k) fs)) kept.footprints
 
-  redo_found : (s : State w) (log : List (Logged w)) (k : ℕ) (e : Edit w) → IsKept s log → (m : ℕ) → redo_blocker log k (planned e s) ≡ Some m →
+  redo_found : (s : State w) (log : List (Logged w)) (k : ℕ) (e : EditTree w) → IsKept s log → (m : ℕ) → redo_blocker log k (planned e s) ≡ Some m →
       Least (BlocksRedo (traces (history log)) k (trace e s)) m
   redo_found s log k e kept m is =
       let (j, at, least) = redo_least (traces (history log)) k (suc k) m (trace e s) (sym (planned_blocker s log k e kept) ∙ is) in
       let same : j ≡ m = omega (arith, at) in
       rw (← same) least
 
-  redo_none : (s : State w) (log : List (Logged w)) (k : ℕ) (e : Edit w) → IsKept s log → redo_blocker log k (planned e s) ≡ None → (j : ℕ) →
+  redo_none : (s : State w) (log : List (Logged w)) (k : ℕ) (e : EditTree w) → IsKept s log → redo_blocker log k (planned e s) ≡ None → (j : ℕ) →
       BlocksRedo (traces (history log)) k (trace e s) j → ⊥
   redo_none s log k e kept is = redo_free (traces (history log)) k (suc k) (trace e s) (sym (planned_blocker s log k e kept) ∙ is)
 

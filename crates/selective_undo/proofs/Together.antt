@@ -7,7 +7,7 @@ use Rattle.std.specs.FinMap.{FinMap, get, entries}
 use Rattle.std.specs.FinMap.Entries.{where_key}
 use Rattle.selective_undo.specs.declared.Change as declared
 use Rattle.selective_undo.specs.Changes.{IsOrder, applied, apply, inverse, changes, AllOnce}
-use Rattle.selective_undo.specs.Edit.{Schema, State, Change, Edit, Trace, refuse, write, look, part, seen, outcome, reads, written, trace, step, writes}
+use Rattle.selective_undo.specs.Edit.{Schema, State, Change, EditTree, Trace, refuse, write, look, part, seen, outcome, reads, written, trace, step, writes}
 use Rattle.selective_undo.specs.History.{done, replay_from, traces_from, InForce}
 use Rattle.selective_undo.specs.Together.{left_in, others, together, after, both, refused_as, all_from, all_of, followed, all_reads, IsFirstRefused}
 use Rattle.selective_undo.specs.Laws.{TogetherLaw, OverlaidLaw, BothLaw, FrontLaw, AllOfLaw}
@@ -256,12 +256,12 @@ joined_outcome w xs (Ok ys) = Ok (together w.order xs ys)
 joined_outcome w xs (Err why) = Err why
 
 module _ {w : Schema} where
-  reads-after : (xs : List (Change w)) (e : Edit w) (s : State w) → reads (after xs e) s ≡ reads e (apply xs s)
+  reads-after : (xs : List (Change w)) (e : EditTree w) (s : State w) → reads (after xs e) s ≡ reads e (apply xs s)
   reads-after xs (refuse why) s = refl
   reads-after xs (write ys) s = refl
   reads-after xs (look p next) s = rw (overlaid_law w xs p s) (ap (λ ps. p ∷ ps) (reads-after xs (next (seen w p (apply xs s))) s))
 
-  outcome-after : (xs : List (Change w)) (e : Edit w) (s : State w) → outcome (after xs e) s ≡ joined_outcome w xs (outcome e (apply xs s))
+  outcome-after : (xs : List (Change w)) (e : EditTree w) (s : State w) → outcome (after xs e) s ≡ joined_outcome w xs (outcome e (apply xs s))
   outcome-after xs (refuse why) s = refl
   outcome-after xs (write ys) s = refl
   outcome-after xs (look p next) s =
@@ -282,7 +282,7 @@ module _ {w : Schema} where
       ]
 
   -- what changes xs and then an edit did, by what the edit did after them
-  after_trace : (xs : List (Change w)) (d : Edit w) (s : State w) → trace (after xs d) s ≡ followed (trace (write xs) s) (trace d (apply xs s))
+  after_trace : (xs : List (Change w)) (d : EditTree w) (s : State w) → trace (after xs d) s ≡ followed (trace (write xs) s) (trace d (apply xs s))
   after_trace xs d s =
       rw (reads-after xs d s, outcome-after xs d s)
       (elim (outcome d (apply xs s)) as (λ o.
@@ -293,7 +293,7 @@ module _ {w : Schema} where
         | Err why ↦ refl
       ])
 
-  pub both_trace : (e d : Edit w) (s : State w) → trace (both e d) s ≡ followed (trace e s) (trace d (step e s))
+  pub both_trace : (e d : EditTree w) (s : State w) → trace (both e d) s ≡ followed (trace e s) (trace d (step e s))
   both_trace (refuse why) d s = refl
   both_trace (write xs) d s = after_trace xs d s
   both_trace (look p next) d s =
@@ -313,7 +313,7 @@ module _ {w : Schema} where
         | Err why ↦ λ ok. cc
       ] first
 
-  pub both_step : (e d : Edit w) (s : State w) → IsOk (outcome e s) → IsOk (outcome d (step e s)) → step (both e d) s ≡ step d (step e s)
+  pub both_step : (e d : EditTree w) (s : State w) → IsOk (outcome e s) → IsOk (outcome d (step e s)) → step (both e d) s ≡ step d (step e s)
   both_step e d s first then_ok =
       ap (λ t. apply (written t.outcome) s) (both_trace e d s) ∙ followed_step (trace e s) (trace d (step e s)) s first then_ok
 
@@ -327,32 +327,32 @@ module _ {w : Schema} where
   abbrev told : (w.Refusal → w.Refusal) → Trace w → Trace w
   told f t = record { reads = t.reads; outcome = elim t.outcome [ Ok xs ↦ Ok xs | Err why ↦ Err (f why) ]; before = t.before }
 
-  told_trace : (f : w.Refusal → w.Refusal) (e : Edit w) (s : State w) → trace (refused_as f e) s ≡ told f (trace e s)
+  told_trace : (f : w.Refusal → w.Refusal) (e : EditTree w) (s : State w) → trace (refused_as f e) s ≡ told f (trace e s)
   told_trace f (refuse why) s = refl
   told_trace f (write xs) s = refl
   told_trace f (look p next) s = ap (looked p) (told_trace f (next (seen w p s)) s)
 
-  told_step : (f : w.Refusal → w.Refusal) (e : Edit w) (s : State w) → step (refused_as f e) s ≡ step e s
+  told_step : (f : w.Refusal → w.Refusal) (e : EditTree w) (s : State w) → step (refused_as f e) s ≡ step e s
   told_step f (refuse why) s = refl
   told_step f (write xs) s = refl
   told_step f (look p next) s = told_step f (next (seen w p s)) s
 
   -- once edit e was refused, the others do nothing
-  refused_before : (m : ℕ → w.Refusal → w.Refusal) (e : Edit w) (i : ℕ) (ds : List (Edit w)) (s : State w) (why : w.Refusal) → outcome e s ≡ Err why →
+  refused_before : (m : ℕ → w.Refusal → w.Refusal) (e : EditTree w) (i : ℕ) (ds : List (EditTree w)) (s : State w) (why : w.Refusal) → outcome e s ≡ Err why →
       trace (all_from m e i ds) s ≡ trace e s
   refused_before m e i [] s why is = refl
   refused_before m e i (d ∷ ds) s why is =
       let same : trace (both e (refused_as (m i) d)) s ≡ trace e s = both_trace e (refused_as (m i) d) s ∙ rw is refl in
       refused_before m (both e (refused_as (m i) d)) (i + 1) ds s why (ap (λ t. t.outcome) same ∙ is) ∙ same
 
-  all_from-append : (m : ℕ → w.Refusal → w.Refusal) (e : Edit w) (i : ℕ) (es ds : List (Edit w)) →
+  all_from-append : (m : ℕ → w.Refusal → w.Refusal) (e : EditTree w) (i : ℕ) (es ds : List (EditTree w)) →
       all_from m e i (es ++ ds) ≡ all_from m (all_from m e i es) (i + length es) ds
   all_from-append m e i [] ds = ap (λ n. all_from m e n ds) (let same : i ≡ i + 0 = omega arith in same)
   all_from-append m e i (d ∷ es) ds =
       all_from-append m (both e (refused_as (m i) d)) (i + 1) es ds
       ∙ ap (λ n. all_from m (all_from m e i (d ∷ es)) n ds) (let same : i + 1 + length es ≡ i + suc (length es) = omega arith in same)
 
-  all_of-append : (m : ℕ → w.Refusal → w.Refusal) (es ds : List (Edit w)) → all_of m (es ++ ds) ≡ all_from m (all_of m es) (length es) ds
+  all_of-append : (m : ℕ → w.Refusal → w.Refusal) (es ds : List (EditTree w)) → all_of m (es ++ ds) ≡ all_from m (all_of m es) (length es) ds
   all_of-append m es ds =
       all_from-append m (write []) 0 es ds ∙ ap (λ n. all_from m (all_of m es) n ds) (let same : 0 + length es ≡ length es = omega arith in same)
 
@@ -417,7 +417,7 @@ record Goes {w : Schema} (t : Trace w) (ts : List (Option (Trace w))) (r : State
   once : AllOnce w.order t.before → ((k : ℕ) (u : Trace w) → InForce ts k u → AllOnce w.order u.before) → AllOnce w.order all.before
 
 module _ {w : Schema} where
-  goes : (m : ℕ → w.Refusal → w.Refusal) (e : Edit w) (i : ℕ) (ds : List (Edit w)) (s r : State w) → IsOk (outcome e s) → step e s ≡ r →
+  goes : (m : ℕ → w.Refusal → w.Refusal) (e : EditTree w) (i : ℕ) (ds : List (EditTree w)) (s r : State w) → IsOk (outcome e s) → step e s ≡ r →
       ((k : ℕ) (u : Trace w) → InForce (traces_from (map done ds) r) k u → IsOk u.outcome) →
       Goes (trace e s) (traces_from (map done ds) r) (replay_from (map done ds) r) (trace (all_from m e i ds) s) s
   goes m e i [] s r ok is all = record {
@@ -429,7 +429,7 @@ module _ {w : Schema} where
   }
   goes m e i (d ∷ ds) s r ok is all =
       let f = m i in
-      let e' : Edit w = both e (refused_as f d) in
+      let e' : EditTree w = both e (refused_as f d) in
       let t = trace e s in
       let u = trace d r in
       let v : Trace w = told f u in
@@ -455,13 +455,13 @@ module _ {w : Schema} where
       }
 
   -- one of the others is refused
-  halts : (m : ℕ → w.Refusal → w.Refusal) (e : Edit w) (i : ℕ) (ds : List (Edit w)) (s r : State w) (k : ℕ) (why : w.Refusal) → IsOk (outcome e s) →
+  halts : (m : ℕ → w.Refusal → w.Refusal) (e : EditTree w) (i : ℕ) (ds : List (EditTree w)) (s r : State w) (k : ℕ) (why : w.Refusal) → IsOk (outcome e s) →
       step e s ≡ r → IsFirstRefused (traces_from (map done ds) r) k why →
       (outcome (all_from m e i ds) s ≡ Err (m (i + k) why)) × (reads (all_from m e i ds) s ≡ reads e s ++ all_reads (take (suc k) (traces_from (map done ds) r)))
   halts m e i [] s r k why ok is at = let h = at.there in cc
   halts m e i (d ∷ ds) s r zero why ok is at =
       let f = m i in
-      let e' : Edit w = both e (refused_as f d) in
+      let e' : EditTree w = both e (refused_as f d) in
       let t = trace e s in
       let u = trace d r in
       let v : Trace w = told f u in
@@ -478,7 +478,7 @@ module _ {w : Schema} where
       )
   halts m e i (d ∷ ds) s r (suc k) why ok is at =
       let f = m i in
-      let e' : Edit w = both e (refused_as f d) in
+      let e' : EditTree w = both e (refused_as f d) in
       let t = trace e s in
       let u = trace d r in
       let v : Trace w = told f u in
@@ -501,7 +501,7 @@ module _ {w : Schema} where
 
 pub all_of_law : (w : Schema) → AllOfLaw w
 all_of_law w m es s =
-    let first : Edit w = write [] in
+    let first : EditTree w = write [] in
     let ts = traces_from (map done es) s in (
       λ all.
           let g = goes m first 0 es s s refl refl all in (

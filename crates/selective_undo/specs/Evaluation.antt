@@ -5,7 +5,7 @@ use Rattle.std.specs.FinMap.Entries.{find, where_key}
 use Rattle.std.specs.FinMap.Entries as sorted
 use Rattle.std.specs.declared.cmp.Ordering.{Ordering}
 use Rattle.selective_undo.specs.declared.Change as declared
-use Rattle.selective_undo.specs.Edit.{Schema, Seen, Change, Edit, Trace, refuse, write, look, written}
+use Rattle.selective_undo.specs.Edit.{Schema, Seen, Change, EditTree, Trace, refuse, write, look, written}
 use Rattle.selective_undo.specs.History.{Entry, done, undone}
 
 module _ {K V : Type 0} (order : K → K → Ordering) where
@@ -25,23 +25,23 @@ module _ {K V : Type 0} (order : K → K → Ordering) where
 
 module _ {w : Schema} where
   -- what an edit does to a state that is given as the list of its cells with their values, in order
-  abbrev pub outcome_in : Edit w → Seen w → Result (List (Change w)) w.Refusal
+  abbrev pub outcome_in : EditTree w → Seen w → Result (List (Change w)) w.Refusal
   outcome_in (refuse why) es = Err why
   outcome_in (write xs) es = Ok xs
   outcome_in (look p next) es = outcome_in (next (where_key w.order (w.matches p) es)) es
 
   -- the patterns that it looks at there
-  abbrev pub reads_in : Edit w → Seen w → List w.Pattern
+  abbrev pub reads_in : EditTree w → Seen w → List w.Pattern
   reads_in (refuse why) es = []
   reads_in (write xs) es = []
   reads_in (look p next) es = p ∷ reads_in (next (where_key w.order (w.matches p) es)) es
 
   -- what it does there
-  abbrev pub trace_in : Edit w → Seen w → Trace w
+  abbrev pub trace_in : EditTree w → Seen w → Trace w
   trace_in e es = record { reads = reads_in e es; outcome = outcome_in e es; before = inverse_in w.order (written (outcome_in e es)) es }
 
   -- the list after it
-  abbrev pub step_in : Edit w → Seen w → Seen w
+  abbrev pub step_in : EditTree w → Seen w → Seen w
   step_in e es = apply_in w.order (written (outcome_in e es)) es
 
   -- what a history comes to, begun at such a list

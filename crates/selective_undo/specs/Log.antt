@@ -3,7 +3,7 @@ use Rattle.std.specs.Prelude.{◌≡◌, ℕ, suc, slice_get, drop, ◌+◌, ◌
 use Rattle.std.specs.Prelude.{if◌then◌else◌}
 use Rattle.std.specs.List.{list_any}
 use Rattle.selective_undo.specs.Changes.{changes}
-use Rattle.selective_undo.specs.Edit.{Schema, State, Change, Edit, Trace, covers, reads, outcome, written, Needs}
+use Rattle.selective_undo.specs.Edit.{Schema, State, Change, EditTree, Trace, covers, reads, outcome, written, Needs}
 use Rattle.selective_undo.specs.History.{Entry, done, undone, InForce, IsLegal, replay, traces}
 
 -- What an edit read, and the cells that it wrote, with the values that they had.
@@ -13,7 +13,7 @@ pub record Footprint (w : Schema) : Type 0 where
 
 -- An edit, with its footprint if it is in force.
 pub record Logged (w : Schema) : Type 0 where
-  pub edit : Edit w
+  pub edit : EditTree w
   pub kept : Option (Footprint w)
 
 module _ {w : Schema} where
@@ -26,7 +26,7 @@ module _ {w : Schema} where
   footprints ts = map (option_map footprint_of) ts
 
   -- an edit is in force where something is kept of it
-  abbrev pub entry_by : Edit w → Option (Footprint w) → Entry w
+  abbrev pub entry_by : EditTree w → Option (Footprint w) → Entry w
   entry_by e (Some f) = done e
   entry_by e None = undone e
 
@@ -53,7 +53,7 @@ module _ {w : Schema} where
   blocks_redo g (Some f) = meets_any f g.touched || meets_any g f.touched
 
   -- what an edit would read and write in a state, with the values that it would write
-  abbrev pub planned : Edit w → State w → Footprint w
+  abbrev pub planned : EditTree w → State w → Footprint w
   planned e s = record { reads = reads e s; touched = written (outcome e s) }
 
 -- the place of the first that passes, where i is the place of the first of all
@@ -71,11 +71,11 @@ module _ {w : Schema} where
   redo_blocker log k g = first_from (blocks_redo g) (suc k) (drop (suc k) (map (λ x. x.kept) log))
 
   -- how an edit stands in a log: in force, with what is kept of its trace
-  abbrev pub logged_done : Edit w → Trace w → Logged w
+  abbrev pub logged_done : EditTree w → Trace w → Logged w
   logged_done e t = record { edit = e; kept = Some (footprint_of t) }
 
   -- and out of force
-  abbrev pub logged_undone : Edit w → Logged w
+  abbrev pub logged_undone : EditTree w → Logged w
   logged_undone e = record { edit = e; kept = None }
 
 -- The log is legal, the state is its replay, and what is kept of each edit in force is what it does in that replay.

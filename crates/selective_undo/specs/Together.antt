@@ -6,7 +6,7 @@ use Rattle.std.specs.FinMap.Entries.{where_key}
 use Rattle.std.specs.declared.cmp.Ordering.{Ordering}
 use Rattle.selective_undo.specs.declared.Change as declared
 use Rattle.selective_undo.specs.Changes.{changes}
-use Rattle.selective_undo.specs.Edit.{Schema, Seen, Change, Edit, Trace, refuse, write, look}
+use Rattle.selective_undo.specs.Edit.{Schema, Seen, Change, EditTree, Trace, refuse, write, look}
 use Rattle.selective_undo.specs.Evaluation.{apply_in}
 use Rattle.selective_undo.specs.History.{InForce}
 
@@ -30,30 +30,30 @@ overlaid w xs p es = where_key w.order (w.matches p) (apply_in w.order xs es)
 
 module _ {w : Schema} where
   -- the changes and then the edit, as one: each look of the edit shows what it would show after the changes
-  abbrev pub after : List (Change w) → Edit w → Edit w
+  abbrev pub after : List (Change w) → EditTree w → EditTree w
   after xs (refuse why) = refuse why
   after xs (write ys) = write (together w.order xs ys)
   after xs (look p next) = look p (λ es. after xs (next (overlaid w xs p es)))
 
   -- edit e and then edit d, as one
-  abbrev pub both : Edit w → Edit w → Edit w
+  abbrev pub both : EditTree w → EditTree w → EditTree w
   both (refuse why) d = refuse why
   both (write xs) d = after xs d
   both (look p next) d = look p (λ es. both (next es) d)
 
   -- the edit, where a refusal says f of what it said
-  abbrev pub refused_as : (w.Refusal → w.Refusal) → Edit w → Edit w
+  abbrev pub refused_as : (w.Refusal → w.Refusal) → EditTree w → EditTree w
   refused_as f (refuse why) = refuse (f why)
   refused_as f (write xs) = write xs
   refused_as f (look p next) = look p (λ es. refused_as f (next es))
 
   -- edit e and then the others, as one, where the first of them has place i and a refusal is told with the place
-  abbrev pub all_from : (ℕ → w.Refusal → w.Refusal) → Edit w → ℕ → List (Edit w) → Edit w
+  abbrev pub all_from : (ℕ → w.Refusal → w.Refusal) → EditTree w → ℕ → List (EditTree w) → EditTree w
   all_from at_place e i [] = e
   all_from at_place e i (d ∷ ds) = all_from at_place (both e (refused_as (at_place i) d)) (i + 1) ds
 
   -- a transaction: all of the edits, one after another, as one
-  abbrev pub all_of : (ℕ → w.Refusal → w.Refusal) → List (Edit w) → Edit w
+  abbrev pub all_of : (ℕ → w.Refusal → w.Refusal) → List (EditTree w) → EditTree w
   all_of at_place es = all_from at_place (write []) 0 es
 
   -- what an edit did and then another, as what one edit did: refused where one of them was, and with each cell's first value as the one before

@@ -1,6 +1,6 @@
 -- Edits as trees, and how they look at cells.
 use Rattle.std.specs.Prelude.{List, [], ◌∷◌, Option, Some, None, Result, Ok, Err}
-use Rattle.selective_undo.specs.Edit.{Edit, refuse, look}
+use Rattle.selective_undo.specs.Edit.{EditTree, refuse, look}
 use Rattle.wb_cells.specs.declared.cells.cell.Cell.{Cell}
 use Rattle.wb_cells.specs.declared.cells.pattern.Pattern.TheVariants.{One}
 use Rattle.wb_cells.specs.declared.cells.value.Value.{Value}
@@ -10,7 +10,7 @@ use Rattle.wb_cells.specs.Schema.{workbook}
 
 -- An edit of a workbook is a tree: `refuse why`, `write changes`, or a look and what follows for each thing that it may show.
 abbrev pub Tree : Type 0
-Tree = Edit workbook
+Tree = EditTree workbook
 
 -- A test, or a look, by whose answer the rest of an edit goes on: it is given the rest, and is the whole edit.
 -- `x ← t` says: by t, get x, and go on. `unit ← t` is a test that says no more than that the edit goes on.

@@ -1,6 +1,6 @@
 -- Undo and redo, one directly after the other, by their answers.
 use Rattle.std.proofs.Common.{◌≡◌, ◌≢◌, ℕ, zero, suc, ◌-◌, Bool, true, false, List, [], ◌∷◌, Some, Result, Ok, Err, slice_get, refl, sym, ap, ◌∙◌, subst, arith}
-use Rattle.selective_undo.specs.Edit.{Edit}
+use Rattle.selective_undo.specs.Edit.{EditTree}
 use Rattle.selective_undo.specs.History.{done, undone, undo, redo, IsLegal, CanUndo, CanRedo}
 use Rattle.std.specs.FinMap.{empty}
 use Rattle.selective_undo.proofs.Inverses.{edit_at, undo_after_redo_law, redo_after_undo_law, redo_back_law}
@@ -15,22 +15,22 @@ use Rattle.wb_history.specs.ReplyLaws.{UndoAfterRedoAnswerLaw, RedoAfterLastAnsw
 use Rattle.wb_log.proofs.Granted.{undo_meant, redo_meant}
 use Rattle.wb_history.proofs.OneAnswer.{one_undo, one_redo}
 
-not_done : (e : command.Edit) (b : Bool) (d : Edit workbook) → Some (entry_at e b) ≡ Some (undone d) → b ≡ false
+not_done : (e : command.Edit) (b : Bool) (d : EditTree workbook) → Some (entry_at e b) ≡ Some (undone d) → b ≡ false
 not_done e true d is = cc
 not_done e false d is = refl
 
-not_undone : (e : command.Edit) (b : Bool) (d : Edit workbook) → Some (entry_at e b) ≡ Some (done d) → b ≡ true
+not_undone : (e : command.Edit) (b : Bool) (d : EditTree workbook) → Some (entry_at e b) ≡ Some (done d) → b ≡ true
 not_undone e true d is = refl
 not_undone e false d is = cc
 
 -- an edit out of force that is put in force and taken out again
-out_again : (es : List Numbered) (k : ℕ) (d : Edit workbook) → slice_get (meant es) k ≡ Some (undone d) → out_of_force k (into_force k es) ≡ es
+out_again : (es : List Numbered) (k : ℕ) (d : EditTree workbook) → slice_get (meant es) k ≡ Some (undone d) → out_of_force k (into_force k es) ≡ es
 out_again [] k d is = refl
 out_again (x ∷ es) zero d is = ap (λ b. record { edit = x.edit; in_force = b } ∷ es) (sym (not_done x.edit x.in_force d is))
 out_again (x ∷ es) (suc k) d is = ap (λ r. x ∷ r) (out_again es k d is)
 
 -- an edit in force that is taken out and put in force again
-in_again : (es : List Numbered) (k : ℕ) (d : Edit workbook) → slice_get (meant es) k ≡ Some (done d) → into_force k (out_of_force k es) ≡ es
+in_again : (es : List Numbered) (k : ℕ) (d : EditTree workbook) → slice_get (meant es) k ≡ Some (done d) → into_force k (out_of_force k es) ≡ es
 in_again [] k d is = refl
 in_again (x ∷ es) zero d is = ap (λ b. record { edit = x.edit; in_force = b } ∷ es) (sym (not_undone x.edit x.in_force d is))
 in_again (x ∷ es) (suc k) d is = ap (λ r. x ∷ r) (in_again es k d is)

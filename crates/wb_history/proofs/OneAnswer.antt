@@ -2,7 +2,7 @@
 use Rattle.std.proofs.Common.{◌≡◌, ◌≢◌, ℕ, zero, suc, ◌+◌, List, length, Option, Some, None, Result, Ok, Err, IsOk, slice_get, inl, inr, refl, sym, ap, ◌∙◌}
 use Rattle.std.proofs.Common.{subst, arith}
 use Rattle.std.specs.FinMap.{empty}
-use Rattle.selective_undo.specs.Edit.{Edit, Trace, trace, outcome}
+use Rattle.selective_undo.specs.Edit.{EditTree, Trace, trace, outcome}
 use Rattle.selective_undo.specs.History.{Entry, done, undone, traces, replay, InForce, IsLast, Blocks, CanUndo, CanRedo}
 use Rattle.selective_undo.specs.Log.{Least, BlocksRedo}
 use Rattle.selective_undo.proofs.Inverses.{edit_at}
@@ -26,10 +26,10 @@ least_same : (P : ℕ → Type 0) (j i : ℕ) → Least P j → Least P i → j 
 least_same P j i a b = omega (arith, a.least i b.holds, b.least j a.holds)
 
 module _ (es : List (Entry workbook)) (k : ℕ) where
-  done_undone : (d e : Edit workbook) → slice_get es k ≡ Some (done d) → slice_get es k ≡ Some (undone e) → ⊥
+  done_undone : (d e : EditTree workbook) → slice_get es k ≡ Some (done d) → slice_get es k ≡ Some (undone e) → ⊥
   done_undone d e on off = let same : Some (done d) ≡ Some (undone e) = sym on ∙ off in cc
 
-  undone_same : (d e : Edit workbook) → slice_get es k ≡ Some (undone d) → slice_get es k ≡ Some (undone e) → d ≡ e
+  undone_same : (d e : EditTree workbook) → slice_get es k ≡ Some (undone d) → slice_get es k ≡ Some (undone e) → d ≡ e
   undone_same d e a b = let same : Some (undone d) ≡ Some (undone e) = sym a ∙ b in cc
 
   traces_same : (t u : Trace workbook) → InForce (traces es) k t → InForce (traces es) k u → t ≡ u
@@ -40,7 +40,7 @@ module _ (es : List (Entry workbook)) (k : ℕ) where
   data UndoCause : Type 0 where
     granted : (t : Trace workbook) → CanUndo es k t → UndoCause
     missing : slice_get es k ≡ None → UndoCause
-    out : (e : Edit workbook) → slice_get es k ≡ Some (undone e) → UndoCause
+    out : (e : EditTree workbook) → slice_get es k ≡ Some (undone e) → UndoCause
     stuck : (j : ℕ) → Least (λ i. Blocks (traces es) i k) j → UndoCause
 
   abbrev undo_answer : UndoCause → Result ℕ Refusal
@@ -63,13 +63,13 @@ module _ (es : List (Entry workbook)) (k : ℕ) where
   undo_cause (Err (RefusedInPlace e)) reply memory = absurd reply
 
   -- an edit in force stands as done
-  on_at : (t : Trace workbook) → InForce (traces es) k t → (e : Edit workbook) × (slice_get es k ≡ Some (done e))
+  on_at : (t : Trace workbook) → InForce (traces es) k t → (e : EditTree workbook) × (slice_get es k ≡ Some (done e))
   on_at t there = let made = edit_at es empty k t there in (made.0, made.1)
 
   pub granted_missing : (t : Trace workbook) → InForce (traces es) k t → slice_get es k ≡ None → ⊥
   granted_missing t there none = none_some none (on_at t there).1
 
-  pub granted_out : (t : Trace workbook) → InForce (traces es) k t → (e : Edit workbook) → slice_get es k ≡ Some (undone e) → ⊥
+  pub granted_out : (t : Trace workbook) → InForce (traces es) k t → (e : EditTree workbook) → slice_get es k ≡ Some (undone e) → ⊥
   granted_out t there e off = let on = on_at t there in done_undone on.0 e on.1 off
 
   undo_same : (c d : UndoCause) → undo_answer c ≡ undo_answer d
@@ -101,9 +101,9 @@ module _ (es : List (Entry workbook)) (k : ℕ) where
   data RedoCause : Type 0 where
     regranted : (t : Trace workbook) → CanRedo es k t → RedoCause
     none_there : slice_get es k ≡ None → RedoCause
-    on : (e : Edit workbook) → slice_get es k ≡ Some (done e) → RedoCause
-    met : (e : Edit workbook) → slice_get es k ≡ Some (undone e) → (j : ℕ) → Least (BlocksRedo (traces es) k (trace e (replay es))) j → RedoCause
-    refused : (e : Edit workbook) → slice_get es k ≡ Some (undone e) → (why : command_refusal.EditRefusal) → outcome e (replay es) ≡ Err why →
+    on : (e : EditTree workbook) → slice_get es k ≡ Some (done e) → RedoCause
+    met : (e : EditTree workbook) → slice_get es k ≡ Some (undone e) → (j : ℕ) → Least (BlocksRedo (traces es) k (trace e (replay es))) j → RedoCause
+    refused : (e : EditTree workbook) → slice_get es k ≡ Some (undone e) → (why : command_refusal.EditRefusal) → outcome e (replay es) ≡ Err why →
         ((j : ℕ) → BlocksRedo (traces es) k (trace e (replay es)) j → ⊥) → RedoCause
 
   abbrev redo_answer : RedoCause → Result ℕ Refusal
@@ -126,10 +126,10 @@ module _ (es : List (Entry workbook)) (k : ℕ) where
   redo_cause (Err (Refused e)) reply memory = absurd reply
   redo_cause (Err NotInForce) reply memory = absurd reply
 
-  tried_same : (t : Trace workbook) (can : CanRedo es k t) (e : Edit workbook) → slice_get es k ≡ Some (undone e) → trace e (replay es) ≡ t
+  tried_same : (t : Trace workbook) (can : CanRedo es k t) (e : EditTree workbook) → slice_get es k ≡ Some (undone e) → trace e (replay es) ≡ t
   tried_same t can e off = ap (λ d. trace d (replay es)) (undone_same e can.edit off can.out_of_force) ∙ can.tried
 
-  granted_met : (t : Trace workbook) → CanRedo es k t → (e : Edit workbook) → slice_get es k ≡ Some (undone e) → (j : ℕ) →
+  granted_met : (t : Trace workbook) → CanRedo es k t → (e : EditTree workbook) → slice_get es k ≡ Some (undone e) → (j : ℕ) →
       BlocksRedo (traces es) k (trace e (replay es)) j → ⊥
   granted_met t can e off j blocks =
       let b : BlocksRedo (traces es) k t j = subst (λ u. BlocksRedo (traces es) k u j) (tried_same t can e off) blocks in
@@ -138,23 +138,23 @@ module _ (es : List (Entry workbook)) (k : ℕ) where
         | inr need ↦ can.needs_none j b.of_j b.later b.j_in_force need
       ]
 
-  granted_refused : (t : Trace workbook) → CanRedo es k t → (e : Edit workbook) → slice_get es k ≡ Some (undone e) → (why : command_refusal.EditRefusal) →
+  granted_refused : (t : Trace workbook) → CanRedo es k t → (e : EditTree workbook) → slice_get es k ≡ Some (undone e) → (why : command_refusal.EditRefusal) →
       outcome e (replay es) ≡ Err why → ⊥
   granted_refused t can e off why is = ok_err can.accepted (ap (λ u. u.outcome) (sym (tried_same t can e off)) ∙ is)
 
-  met_refused : (e d : Edit workbook) → slice_get es k ≡ Some (undone e) → slice_get es k ≡ Some (undone d) → (j : ℕ) →
+  met_refused : (e d : EditTree workbook) → slice_get es k ≡ Some (undone e) → slice_get es k ≡ Some (undone d) → (j : ℕ) →
       BlocksRedo (traces es) k (trace e (replay es)) j
       → ((j : ℕ) → BlocksRedo (traces es) k (trace d (replay es)) j → ⊥) → ⊥
   met_refused e d a b j blocks free = free j (subst (λ f. BlocksRedo (traces es) k (trace f (replay es)) j) (undone_same e d a b) blocks)
 
-  met_same : (e d : Edit workbook) → slice_get es k ≡ Some (undone e) → slice_get es k ≡ Some (undone d) → (j i : ℕ) →
+  met_same : (e d : EditTree workbook) → slice_get es k ≡ Some (undone e) → slice_get es k ≡ Some (undone d) → (j i : ℕ) →
       Least (BlocksRedo (traces es) k (trace e (replay es))) j
       → Least (BlocksRedo (traces es) k (trace d (replay es))) i → j ≡ i
   met_same e d a b j i least other =
       least_same (BlocksRedo (traces es) k (trace d (replay es))) j i
       (subst (λ f. Least (BlocksRedo (traces es) k (trace f (replay es))) j) (undone_same e d a b) least) other
 
-  refused_same : (e d : Edit workbook) → slice_get es k ≡ Some (undone e) → slice_get es k ≡ Some (undone d) → (why other : command_refusal.EditRefusal)
+  refused_same : (e d : EditTree workbook) → slice_get es k ≡ Some (undone e) → slice_get es k ≡ Some (undone d) → (why other : command_refusal.EditRefusal)
       → outcome e (replay es) ≡ Err why → outcome d (replay es) ≡ Err other → why ≡ other
   refused_same e d a b why other is also =
       let same : Err why ≡ outcome d (replay es) = sym is ∙ ap (λ f. outcome f (replay es)) (undone_same e d a b) in
@@ -247,7 +247,7 @@ last_answer_law es r q fits also memory room =
 
 -- ---- an edit
 
-module _ (es : List (Entry workbook)) (e : Edit workbook) where
+module _ (es : List (Entry workbook)) (e : EditTree workbook) where
   data EditCause : Type 0 where
     accepted : (xs : Changes) → outcome e (replay es) ≡ Ok xs → EditCause
     denied : (why : command_refusal.EditRefusal) → outcome e (replay es) ≡ Err why → EditCause

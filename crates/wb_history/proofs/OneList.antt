@@ -1,6 +1,6 @@
 -- At most one answer to the question for the dependents of an edit fits a history.
 use Rattle.std.proofs.Common.{◌≡◌, ◌≢◌, ℕ, zero, suc, List, [], ◌∷◌, Some, None, Result, Ok, Err, slice_get, inl, inr, refl, sym, ap, ◌∙◌, subst, arith}
-use Rattle.selective_undo.specs.Edit.{Edit, Trace}
+use Rattle.selective_undo.specs.Edit.{EditTree, Trace}
 use Rattle.selective_undo.specs.History.{Entry, undone, traces, InForce, Has, Falls}
 use Rattle.wb_cells.specs.Schema.{workbook}
 use Rattle.wb_log.specs.Cascades.{AreDependents, DependentsReply}
@@ -36,7 +36,7 @@ module _ (es : List (Entry workbook)) (k : ℕ) where
   data ListCause : Type 0 where
     listed : (t : Trace workbook) → InForce (traces es) k t → (ns : List ℕ) → AreDependents (traces es) k ns → ListCause
     missing : slice_get es k ≡ None → ListCause
-    out : (e : Edit workbook) → slice_get es k ≡ Some (undone e) → ListCause
+    out : (e : EditTree workbook) → slice_get es k ≡ Some (undone e) → ListCause
 
   abbrev list_answer : ListCause → Result (List ℕ) Refusal
   list_answer (listed t there ns are) = Ok ns

@@ -3,7 +3,7 @@ use Rattle.std.proofs.Common.{◌≡◌, ℕ, ◌+◌, Bool, true, false, List, 
 use Rattle.std.proofs.Common.{Ok, Err, IsOk, arith}
 use Rattle.std.specs.Prelude.{min, ◌-◌, ◌^◌}
 use Rattle.std.proofs.Math.Nat.{sub-add-min_cancel}
-use Rattle.selective_undo.specs.Edit.{Schema, Change, Edit, Trace, outcome, written, trace, step}
+use Rattle.selective_undo.specs.Edit.{Schema, Change, EditTree, Trace, outcome, written, trace, step}
 use Rattle.selective_undo.specs.History.{Entry, done, undone, traces_from, replay, traces, InForce, IsLegal}
 use Rattle.selective_undo.proofs.Log.{append-map}
 use Rattle.std.specs.FinMap.{empty}
@@ -53,14 +53,14 @@ counted_on c d n w v is more sum =
     let zero_d : 0 + (c + n) ≡ c + n = omega arith in
     more ∙ ap (λ x. min (x + n) m) (is ∙ ap (λ x. min x m) zero_c) ∙ capped c n m ∙ ap (λ x. min x m) (sym zero_d) ∙ ap (λ x. min (0 + x) m) (sym sum)
 
-one_more : (h : List (Entry workbook)) (e : Edit workbook) →
+one_more : (h : List (Entry workbook)) (e : EditTree workbook) →
     cells_written (traces (h ++ done e ∷ [])) ≡ cells_written (traces h) + count_of (written (outcome e (replay h)))
 one_more h e =
     let zero_more : count_of (written (outcome e (replay h))) + 0 ≡ count_of (written (outcome e (replay h))) = omega arith in
     ap cells_written (follows h (done e ∷ []) empty).1 ∙ written_append (traces h) (Some (trace e (replay h)) ∷ []) ∙
     ap (λ n. cells_written (traces h) + n) zero_more
 
-none_more : (h : List (Entry workbook)) (e : Edit workbook) → cells_written (traces (h ++ undone e ∷ [])) ≡ cells_written (traces h)
+none_more : (h : List (Entry workbook)) (e : EditTree workbook) → cells_written (traces (h ++ undone e ∷ [])) ≡ cells_written (traces h)
 none_more h e =
     let same : cells_written (traces h) + 0 ≡ cells_written (traces h) = omega arith in
     ap cells_written (follows h (undone e ∷ []) empty).1 ∙ written_append (traces h) (None ∷ []) ∙ same
@@ -87,7 +87,7 @@ counted_undone p q e more writes counted =
 never_ok : {E : Type 0} (T : Type 0) (o : E) → IsOk {T = T} (Err o) → ⊥
 never_ok T o q = cc
 
-not_ok : (h k : List (Entry workbook)) (e : Edit workbook) (o : _) → outcome e (replay h) ≡ Err o → IsLegal (h ++ done e ∷ k) → ⊥
+not_ok : (h k : List (Entry workbook)) (e : EditTree workbook) (o : _) → outcome e (replay h) ≡ Err o → IsLegal (h ++ done e ∷ k) → ⊥
 not_ok h k e o refused legal =
     let t = trace e (replay h) in
     let there = subst (λ ts. InForce ts (length (traces h)) t) (sym (follows h (done e ∷ k) empty).1) (seam (traces h) (traces_from k (step e (replay h))) t) in

@@ -1,7 +1,7 @@
 -- What holds of the answers to edits, undos and redos (`Replies`, `Cascades`): at most one kind of answer fits a history and a request,
 -- so that each refusal comes exactly when its cause is there; and undo and redo are inverse.
 use Rattle.std.specs.Prelude.{◌≡◌, ◌≢◌, ℕ, ◌-◌, List, Result, Ok, Err}
-use Rattle.selective_undo.specs.Edit.{Edit}
+use Rattle.selective_undo.specs.Edit.{EditTree}
 use Rattle.selective_undo.specs.History as h
 use Rattle.selective_undo.specs.History.{IsLegal}
 use Rattle.wb_cells.specs.Schema.{workbook}
@@ -16,7 +16,7 @@ abbrev pub OneAnswer : {X : Type 0} → (Result X Refusal → Type 0) → Type 0
 OneAnswer {X} Fits = (r q : Result X Refusal) → Fits r → Fits q → r ≢ Err NoMemory → q ≢ Err NoMemory → r ≡ q
 
 abbrev pub EditAnswerLaw : Type 0
-EditAnswerLaw = (es : List (h.Entry workbook)) (e : Edit workbook) → OneAnswer (EditReply es e)
+EditAnswerLaw = (es : List (h.Entry workbook)) (e : EditTree workbook) → OneAnswer (EditReply es e)
 
 abbrev pub UndoAnswerLaw : Type 0
 UndoAnswerLaw = (es : List (h.Entry workbook)) (number : ℕ) → OneAnswer (ByNumber (UndoReply es) number)

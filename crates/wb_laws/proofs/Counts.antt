@@ -3,7 +3,7 @@ use Rattle.std.proofs.Common.{◌≡◌, ℕ, zero, suc, Bool, true, false, cond
 use Rattle.std.specs.FinMap.{empty, get}
 use Rattle.std.specs.List.{filter}
 use Rattle.selective_undo.specs.Changes.{inverse, AllOnce}
-use Rattle.selective_undo.specs.Edit.{Edit, Trace, outcome, trace, step, written}
+use Rattle.selective_undo.specs.Edit.{EditTree, Trace, outcome, trace, step, written}
 use Rattle.selective_undo.specs.History.{Entry, undone, replay, replay_from, traces_from, InForce}
 use Rattle.selective_undo.proofs.Changes.{changes-inverse}
 use Rattle.wb_cells.specs.Cells.{Cells, Changes, cell_cmp, is_counted, count_of}
@@ -56,7 +56,7 @@ well_formed_replay es valid = well_formed_from es empty valid empty_is_well_form
 same_trace : (t u : Trace workbook) → Some (Some t) ≡ Some (Some u) → t ≡ u
 same_trace t u e = cc
 
-same_undone : (e f : Edit workbook) → ◌≡◌ {A = Option (Entry workbook)} (Some (undone e)) (Some (undone f)) → e ≡ f
+same_undone : (e f : EditTree workbook) → ◌≡◌ {A = Option (Entry workbook)} (Some (undone e)) (Some (undone f)) → e ≡ f
 same_undone e f is = cc
 
 -- an edit in force wrote each cell once: the first one, or one of the others, by what holds of these from any workbook on
@@ -76,17 +76,17 @@ once_in_force (x ∷ es) s valid lists h k t there =
     once_at x es s valid.0 lists.0 h t (λ u g j e. once_in_force es u valid.1 lists.1 g j t e) x.in_force k there
 
 -- an edit out of force is a valid command
-abbrev IsCommand : Edit workbook → Type 0
+abbrev IsCommand : EditTree workbook → Type 0
 IsCommand e = (c : command.Edit) × (meaning c ≡ e) × IsValid c × ListsOnce c
 
-command_first : (x : Numbered) (es : List Numbered) (e : Edit workbook) → IsValid x.edit → ListsOnce x.edit →
+command_first : (x : Numbered) (es : List Numbered) (e : EditTree workbook) → IsValid x.edit → ListsOnce x.edit →
     ((j : ℕ) → slice_get (meant es) j ≡ Some (undone e) → IsCommand e)
     → (b : Bool) (k : ℕ) → slice_get (entry_at x.edit b ∷ meant es) k ≡ Some (undone e) → IsCommand e
 command_first x es e valid lists rest false zero is = (x.edit, same_undone (meaning x.edit) e is, valid, lists)
 command_first x es e valid lists rest true zero is = cc
 command_first x es e valid lists rest b (suc j) is = rest j is
 
-command_at : (es : List Numbered) (k : ℕ) (e : Edit workbook) → AreValid es → ListOnce es → slice_get (meant es) k ≡ Some (undone e) → IsCommand e
+command_at : (es : List Numbered) (k : ℕ) (e : EditTree workbook) → AreValid es → ListOnce es → slice_get (meant es) k ≡ Some (undone e) → IsCommand e
 command_at [] k e valid lists is = cc
 command_at (x ∷ es) k e valid lists is =
     command_first x es e valid.0 lists.0 (λ j there. command_at es j e valid.1 lists.1 there) x.in_force k is
@@ -119,5 +119,5 @@ redo_count_law es k n e valid lists reply is =
     let tried : reply.0 ≡ trace e s = sym reply.1.tried ∙ ap (λ f. trace f s) same in
     let c = command_at es k e valid lists is in
     let once : AllOnce cell_cmp (trace e s).before =
-    subst (λ (f : Edit workbook). AllOnce cell_cmp (trace f s).before) c.1 (once_traced c.0 s c.2 c.3 (well_formed_replay es valid)) in
+    subst (λ (f : EditTree workbook). AllOnce cell_cmp (trace f s).before) c.1 (once_traced c.0 s c.2 c.3 (well_formed_replay es valid)) in
     subst (HasSize (touched (trace e s))) (ap (λ (u : Trace workbook). count_of u.before) (sym tried) ∙ sym reply.2) (size_of_trace (trace e s) once)

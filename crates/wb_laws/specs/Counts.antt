@@ -1,6 +1,6 @@
 -- The count of a reply is the size of a set of cells: of those that the edit touched.
 use Rattle.std.specs.Prelude.{◌≡◌, ℕ, suc, Bool, ◌&&◌, List, [], ◌∷◌, Some, Ok, slice_get, ⊤}
-use Rattle.selective_undo.specs.Edit.{Edit, Trace, trace, writes}
+use Rattle.selective_undo.specs.Edit.{EditTree, Trace, trace, writes}
 use Rattle.selective_undo.specs.History.{undone, traces, replay, InForce}
 use Rattle.wb_cells.specs.declared.cells.cell.Cell.{Cell}
 use Rattle.wb_cells.specs.Cells.{is_counted}
@@ -50,7 +50,7 @@ LastCountLaw =
 -- The count of a redo of edit k is how many cells the edit touches now.
 abbrev pub RedoCountLaw : Type 0
 RedoCountLaw =
-    (es : List Numbered) (k n : ℕ) (e : Edit workbook)
+    (es : List Numbered) (k n : ℕ) (e : EditTree workbook)
     → AreValid es → ListOnce es
     → ByNumber (RedoReply (meant es)) (suc k) (Ok n)
     → slice_get (meant es) k ≡ Some (undone e)

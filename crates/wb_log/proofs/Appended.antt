@@ -2,7 +2,7 @@
 use Rattle.std.proofs.Common.{◌≡◌, ℕ, ℤ, List, [], ◌∷◌, ◌++◌, refl, sym, ap, ◌∙◌, subst, Option, Some, None, option_map, is_some, IsSome, Ok, inl, inr}
 use Rattle.std.specs.FinMap.{empty, get}
 use Rattle.selective_undo.specs.Changes.{apply, inverse}
-use Rattle.selective_undo.specs.Edit.{Schema, State, Edit, Trace, trace, step, outcome, reads}
+use Rattle.selective_undo.specs.Edit.{Schema, State, EditTree, Trace, trace, step, outcome, reads}
 use Rattle.selective_undo.specs.History.{Entry, done, undone, replay_from, traces_from, replay, traces, InForce}
 use Rattle.selective_undo.specs.Log.{Logged, IsKept, history, entry_of, footprints, footprint_of}
 use Rattle.selective_undo.proofs.Log.{append-map, last_or}
@@ -48,7 +48,7 @@ module _ {w : Schema} where
       ]
 
   -- an edit comes in out of force
-  kept_undone : (s : State w) (log : List (Logged w)) (e : Edit w) → IsKept s log → IsKept s (log ++ record { edit = e; kept = None } ∷ [])
+  kept_undone : (s : State w) (log : List (Logged w)) (e : EditTree w) → IsKept s log → IsKept s (log ++ record { edit = e; kept = None } ∷ [])
   kept_undone s log e kept =
       let more : Logged w = record { edit = e; kept = None } in
       let h = history log in

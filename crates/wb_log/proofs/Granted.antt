@@ -1,7 +1,7 @@
 -- What a granted undo or redo leaves.
 use Rattle.std.proofs.Common.{◌≡◌, ℕ, zero, suc, ◌-◌, true, false, List, [], ◌∷◌, Some, Result, Ok, Err, OnOk, IfOk, slice_set, refl, sym, ap, ◌∙◌, subst}
 use Rattle.std.proofs.Common.{arith}
-use Rattle.selective_undo.specs.Edit.{Edit, trace}
+use Rattle.selective_undo.specs.Edit.{EditTree, trace}
 use Rattle.selective_undo.specs.History.{Entry, undone, undo, redo, traces, replay, IsLegal}
 use Rattle.selective_undo.proofs.Inverses.{set_back_law, last_law}
 use Rattle.selective_undo.proofs.Redo.{redo_law}
@@ -61,6 +61,6 @@ module _ (s : Cells) (es : List kept.LoggedEdit) (fs : List Numbered) (shows : S
       ap traces (ap meant is ∙ sym (redo_meant k (numbered_entries es))) ∙ law ∙
       ap (λ u. slice_set (traces (entries_meant es)) k (Some u)) (sym can.tried ∙ ap (λ d. trace d (replay (entries_meant es))) same)
     where
-      same_edit : {d e : Edit workbook} → Some (undone d) ≡ Some (undone e) → d ≡ e
+      same_edit : {d e : EditTree workbook} → Some (undone d) ≡ Some (undone e) → d ≡ e
       same_edit h = cc
   redoes_in_place k (Err why) reply is = tt

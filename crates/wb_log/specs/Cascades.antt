@@ -2,7 +2,7 @@
 use Rattle.std.specs.Prelude.{◌≡◌, ◌≢◌, ℕ, zero, suc, ◌+◌, ◌-◌, ◌^◌, ◌≤◌, false, min, length, List, [], ◌∷◌, ◌++◌, map, Option, Some, None, Result, Ok, Err, slice_get}
 use Rattle.std.specs.Prelude.{◌↔◌}
 use Rattle.std.specs.FinMap.{get}
-use Rattle.selective_undo.specs.Edit.{Edit, Trace, writes}
+use Rattle.selective_undo.specs.Edit.{EditTree, Trace, writes}
 use Rattle.selective_undo.specs.History as h
 use Rattle.selective_undo.specs.History.{undone, undo, traces, replay, InForce, Dependent, CanUndo, CanUndoAll, Has, Falls}
 use Rattle.wb_cells.specs.declared.cells.cell.Cell.{Cell}
@@ -26,7 +26,7 @@ AreDependents ts k ns = Falls ns × ((n : ℕ) → Has ns n ↔ IsDependent ts k
 abbrev pub DependentsReply : List (h.Entry workbook) → ℕ → Result (List ℕ) Refusal → Type 0
 DependentsReply es k (Ok ns) = ((t : Trace workbook) × InForce (traces es) k t) × AreDependents (traces es) k ns
 DependentsReply es k (Err NoSuchEdit) = slice_get es k ≡ None
-DependentsReply es k (Err NotInForce) = (e : Edit workbook) × (slice_get es k ≡ Some (undone e))
+DependentsReply es k (Err NotInForce) = (e : EditTree workbook) × (slice_get es k ≡ Some (undone e))
 DependentsReply es k (Err NoMemory) = (t : Trace workbook) × InForce (traces es) k t
 DependentsReply es k (Err why) = ⊥
 

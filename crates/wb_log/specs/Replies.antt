@@ -3,7 +3,7 @@
 -- but of those of a plan, which takes memory.
 use Rattle.std.specs.Prelude.{◌≡◌, ℕ, zero, suc, ◌+◌, List, length, Some, None, Result, Ok, Err, slice_get, slice_set, ⊤, if◌then◌else◌}
 use Rattle.std.specs.FinMap.{get}
-use Rattle.selective_undo.specs.Edit.{Edit, Trace, trace, outcome, writes}
+use Rattle.selective_undo.specs.Edit.{EditTree, Trace, trace, outcome, writes}
 use Rattle.selective_undo.specs.History as h
 use Rattle.selective_undo.specs.History.{undone, traces, replay, Blocks, CanUndo, CanRedo, InForce, IsLast, state_before}
 use Rattle.selective_undo.specs.Log.{Least, BlocksRedo}
@@ -14,7 +14,7 @@ use Rattle.wb_edit.specs.declared.refusal.Refusal.{Refusal}
 use Rattle.wb_edit.specs.declared.refusal.Refusal.TheVariants.{Refused, NoSuchEdit, NotInForce, InForce as IsInForce, Blocked, RefusedInPlace, NoMemory}
 
 -- An edit comes: its number, and how many cells it changes; or why it is refused as things stand.
-abbrev pub EditReply : List (h.Entry workbook) → Edit workbook → Result (ℕ × ℕ) Refusal → Type 0
+abbrev pub EditReply : List (h.Entry workbook) → EditTree workbook → Result (ℕ × ℕ) Refusal → Type 0
 EditReply es e (Ok (k, n)) = (k ≡ length es + 1) × ((xs : Changes) × (outcome e (replay es) ≡ Ok xs) × (n ≡ count_of xs))
 EditReply es e (Err (Refused why)) = outcome e (replay es) ≡ Err why
 EditReply es e (Err NoMemory) = ⊤
@@ -25,7 +25,7 @@ EditReply es e (Err why) = ⊥
 abbrev pub UndoReply : List (h.Entry workbook) → ℕ → Result ℕ Refusal → Type 0
 UndoReply es k (Ok n) = (t : Trace workbook) × CanUndo es k t × (n ≡ count_of t.before)
 UndoReply es k (Err NoSuchEdit) = slice_get es k ≡ None
-UndoReply es k (Err NotInForce) = (e : Edit workbook) × (slice_get es k ≡ Some (undone e))
+UndoReply es k (Err NotInForce) = (e : EditTree workbook) × (slice_get es k ≡ Some (undone e))
 UndoReply es k (Err (Blocked by)) = (j : ℕ) × (by ≡ suc j) × Least (λ i. Blocks (traces es) i k) j
 UndoReply es k (Err NoMemory) = (t : Trace workbook) × CanUndo es k t
 UndoReply es k (Err why) = ⊥
@@ -43,12 +43,12 @@ LastReply es (Err why) = ⊥
 abbrev pub RedoReply : List (h.Entry workbook) → ℕ → Result ℕ Refusal → Type 0
 RedoReply es k (Ok n) = (t : Trace workbook) × CanRedo es k t × (n ≡ count_of t.before)
 RedoReply es k (Err NoSuchEdit) = slice_get es k ≡ None
-RedoReply es k (Err IsInForce) = (e : Edit workbook) × (slice_get es k ≡ Some (h.done e))
-RedoReply es k (Err (Blocked by)) = (e : Edit workbook) × (slice_get es k ≡ Some (undone e)) ×
+RedoReply es k (Err IsInForce) = (e : EditTree workbook) × (slice_get es k ≡ Some (h.done e))
+RedoReply es k (Err (Blocked by)) = (e : EditTree workbook) × (slice_get es k ≡ Some (undone e)) ×
     ((j : ℕ) × (by ≡ suc j) × Least (BlocksRedo (traces es) k (trace e (replay es))) j)
-RedoReply es k (Err (RefusedInPlace why)) = (e : Edit workbook) × (slice_get es k ≡ Some (undone e)) × (outcome e (replay es) ≡ Err why) ×
+RedoReply es k (Err (RefusedInPlace why)) = (e : EditTree workbook) × (slice_get es k ≡ Some (undone e)) × (outcome e (replay es) ≡ Err why) ×
     ((j : ℕ) → BlocksRedo (traces es) k (trace e (replay es)) j → ⊥)
-RedoReply es k (Err NoMemory) = (e : Edit workbook) × (slice_get es k ≡ Some (undone e))
+RedoReply es k (Err NoMemory) = (e : EditTree workbook) × (slice_get es k ≡ Some (undone e))
 RedoReply es k (Err why) = ⊥
 
 -- Edits are numbered from 1.
@@ -73,4 +73,4 @@ Restores es k fs = replay fs ≡ state_before k es
 
 -- Edit k does in its own place what it would do now, and each other edit in force does what it did.
 abbrev pub RedoesInPlace : List (h.Entry workbook) → ℕ → List (h.Entry workbook) → Type 0
-RedoesInPlace es k fs = (e : Edit workbook) → slice_get es k ≡ Some (undone e) → traces fs ≡ slice_set (traces es) k (Some (trace e (replay es)))
+RedoesInPlace es k fs = (e : EditTree workbook) → slice_get es k ≡ Some (undone e) → traces fs ≡ slice_set (traces es) k (Some (trace e (replay es)))

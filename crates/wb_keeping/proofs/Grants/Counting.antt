@@ -1,7 +1,7 @@
 -- Each line of a file counts, and the edits of its history are those of its lines, in order.
 use Rattle.std.proofs.Common.{◌≡◌, ◌≢◌, ◌⊎◌, inl, inr, ⊎_elim, ℕ, zero, suc, ◌-◌, Bool, true, false, not, List, [], ◌∷◌, ◌++◌, length, Some, Result, Ok, refl, sym, ◌∙◌, ap, subst, arith, slice_get, append_assoc, append-nil}
 use Rattle.std.specs.FinMap.{empty}
-use Rattle.selective_undo.specs.Edit.{Edit as Tree}
+use Rattle.selective_undo.specs.Edit.{EditTree}
 use Rattle.selective_undo.specs.History.{done, undone}
 use Rattle.selective_undo.proofs.Inverses.{edit_at}
 use Rattle.wb_kept.specs.Runs.{Leads}
@@ -17,20 +17,20 @@ use Rattle.wb_keeping.specs.Granting.Leading.{asked_one}
 
 -- ---- whether an edit is in force, by the history of the definitions
 
-on_mark : (d : Edit) (b : Bool) (e : Tree workbook) → Some (entry_at d b) ≡ Some (done e) → Some b ≡ Some true
+on_mark : (d : Edit) (b : Bool) (e : EditTree workbook) → Some (entry_at d b) ≡ Some (done e) → Some b ≡ Some true
 on_mark d true e is = refl
 on_mark d false e is = cc
 
-off_mark : (d : Edit) (b : Bool) (e : Tree workbook) → Some (entry_at d b) ≡ Some (undone e) → Some b ≡ Some false
+off_mark : (d : Edit) (b : Bool) (e : EditTree workbook) → Some (entry_at d b) ≡ Some (undone e) → Some b ≡ Some false
 off_mark d true e is = cc
 off_mark d false e is = refl
 
-in_force : (es : List Numbered) (k : ℕ) (e : Tree workbook) → slice_get (meant es) k ≡ Some (done e) → force_of es (suc k) ≡ Some true
+in_force : (es : List Numbered) (k : ℕ) (e : EditTree workbook) → slice_get (meant es) k ≡ Some (done e) → force_of es (suc k) ≡ Some true
 in_force [] k e is = cc
 in_force (x ∷ es) zero e is = on_mark x.edit x.in_force e is
 in_force (x ∷ es) (suc k) e is = in_force es k e is
 
-out_of_force : (es : List Numbered) (k : ℕ) (e : Tree workbook) → slice_get (meant es) k ≡ Some (undone e) → force_of es (suc k) ≡ Some false
+out_of_force : (es : List Numbered) (k : ℕ) (e : EditTree workbook) → slice_get (meant es) k ≡ Some (undone e) → force_of es (suc k) ≡ Some false
 out_of_force [] k e is = cc
 out_of_force (x ∷ es) zero e is = off_mark x.edit x.in_force e is
 out_of_force (x ∷ es) (suc k) e is = out_of_force es k e is
