@@ -2,8 +2,8 @@
 #![tactic(auto)]
 
 #[cfg(test)]
-mod anew;
-#[cfg(test)]
 mod asked;
+#[cfg(test)]
+mod begun;
 #[cfg(test)]
 mod kept_desks;
