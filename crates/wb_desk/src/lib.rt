@@ -3,6 +3,7 @@
 //! A desk: one workbook that several seats share, with the journal of all that was asked and replied.
 #![tactic(auto)]
 
+mod alike;
 mod at_index;
 mod brief;
 mod counted;

@@ -177,6 +177,9 @@ fn is_same_at(entries: &Records, own: &Records, place: usize) -> bool
     requires own { place < length own.now }
     ensures { Decides result (slice_get entries.now place ≡ slice_get own.now place) }
 {
+    if entries.register.is_alike(&own.register, place) {
+        return true;
+    }
     match (entries.get(place), own.get(place)) {
         (Some(entry), Some(other)) => entry.is_same(&other),
         _ => unreachable!(),

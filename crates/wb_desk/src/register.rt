@@ -5,6 +5,7 @@ ghost use Rattle.std.specs.Arc.{arc_value};
 ghost use Rattle.wb_desk.specs.Records.{IsKept, IsWithin, entries_in, lent_in, name_at, shown};
 ghost use Rattle.wb_desk.specs.Tables.{IsFront, IsNamed, IsFilled, IsRoomy};
 
+use crate::alike::are_alike;
 use crate::entry::LentEntry;
 use crate::form::{Form, shown};
 use std::alloc::Global;
@@ -166,6 +167,26 @@ impl Register {
             return None;
         }
         Some(shown(self.seat, self.names.as_slice(), &self.forms[place]))
+    }
+
+    /// Whether both have an entry at a place, and these are seen to be equal by their forms alone. `false` tells nothing.
+    #[tactic(auto, using(crate::proofs::Registers::shown_at))]
+    pub(crate) fn is_alike(&self, other: &Register, place: usize) -> bool
+        ensures { result ≡ true → slice_get (entries_in self.now) place ≡ slice_get (entries_in other.now) place }
+    {
+        if self.seat != other.seat {
+            return false;
+        }
+        if place >= self.forms.len() || place >= other.forms.len() {
+            return false;
+        }
+        let names = self.names.as_slice();
+        are_alike(
+            names,
+            &self.forms[place],
+            other.names.as_slice(),
+            &other.forms[place],
+        )
     }
 
     /// Makes room for one form more. Lists grow by a quarter.
