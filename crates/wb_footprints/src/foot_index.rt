@@ -5,9 +5,9 @@ ghost use Rattle.wb_cells.specs.declared.cells.value.Value.{Value};
 ghost use Rattle.wb_cells.specs.Reads.{all_read};
 ghost use Rattle.wb_footprints.specs.Footprints.{Footprints, IsIndexOf, footprint, with_footprint};
 
-use crate::marks::cell_lists::{mark_all, unmark, unmark_all};
+use crate::marks::cell_lists::{mark, mark_all, unmark, unmark_all};
 use crate::marks::place_marks::PlaceMarks;
-use crate::marks::reading::{mark_reads, unmark_reads, unread_each};
+use crate::marks::reading::{mark_reads, read_each, unmark_reads, unread_each};
 use crate::places::marking::Marking;
 use std::alloc::Global;
 use wb_cells::{Cell, Changes, Pattern, ReadRun};
@@ -61,6 +61,26 @@ impl FootIndex {
         if mark_reads(&mut self.read, reads, runs, number).is_err() {
             unmark_reads(&mut self.read, reads, runs, number);
             unmark_all(&mut self.touched, Marking::Families, before, number);
+            return Err(NoMemory);
+        }
+        Ok(())
+    }
+
+    /// Adds a footprint at a number that has none, which touched one cell, by what it read and that cell; or nothing where no
+    /// memory is left.
+    pub fn add_one(&mut self, number: u64, reads: &[Pattern], cell: &Cell) -> Result<(), NoMemory>
+        ensures ok { OnOk result ((footprints : Footprints) (before : Option Value) → IsIndexOf self.old footprints → footprints number ≡ None →
+            IsIndexOf self.new (with_footprint footprints number (Some (footprint reads.now (record { cell = cell.now; value = before } ∷ []))))) }
+        ensures err { OnErr result ((footprints : Footprints) → IsIndexOf self.old footprints → footprints number ≡ None → IsIndexOf self.new footprints) }
+    {
+        if mark(&mut self.touched, Marking::Families, cell, number).is_err() {
+            unmark(&mut self.touched, Marking::Families, cell, number);
+            return Err(NoMemory);
+        }
+        let read = &mut self.read;
+        if read_each(read, reads, number).is_err() {
+            unread_each(read, reads, number);
+            unmark(&mut self.touched, Marking::Families, cell, number);
             return Err(NoMemory);
         }
         Ok(())

@@ -17,7 +17,12 @@ use crate::places::runs::{LEAST, Run, family_of, row_of};
 use wb_cells::{Cell, CellChange, ChangeRun, Changes, IndexedRow};
 use wb_range::NoMemory;
 
-fn mark(marks: &mut PlaceMarks, marking: Marking, cell: &Cell, number: u64) -> Result<(), NoMemory>
+pub(crate) fn mark(
+    marks: &mut PlaceMarks,
+    marking: Marking,
+    cell: &Cell,
+    number: u64,
+) -> Result<(), NoMemory>
     ensures ok { OnOk result (Sets (place_marked marks.old) (place_marked marks.new) (at_cell marking cell.now) number true) }
     ensures err { OnErr result (Stays (place_marked marks.old) (place_marked marks.new) (at_cell marking cell.now) number) }
 {

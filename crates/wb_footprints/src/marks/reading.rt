@@ -13,7 +13,11 @@ use crate::places::place::place_of;
 use wb_cells::{Changes, Pattern, ReadRun};
 use wb_range::NoMemory;
 
-fn read_each(marks: &mut PlaceMarks, reads: &[Pattern], number: u64) -> Result<(), NoMemory>
+pub(crate) fn read_each(
+    marks: &mut PlaceMarks,
+    reads: &[Pattern],
+    number: u64,
+) -> Result<(), NoMemory>
     ensures ok { OnOk result (Sets (place_marked marks.old) (place_marked marks.new) (read_at reads.now) number true) }
     ensures err { OnErr result (Stays (place_marked marks.old) (place_marked marks.new) (read_at reads.now) number) }
 {
