@@ -8,7 +8,7 @@ use Rattle.std.proofs.lemmas.Bool.Decides.{nat_tests}
 use Rattle.std.proofs.lemmas.Grind.{get_or-set_at}
 use Rattle.std.proofs.lemmas.List.{get_or_past, length-set, get_or-set_other}
 use Rattle.std.proofs.lemmas.List.Elements.{filter-append, All-append, All-cons, All-nil}
-use Rattle.std.proofs.lemmas.List.Sums.{sum_by-set, sum_by_push}
+use Rattle.std.proofs.lemmas.List.Sums.{sum_by_push}
 use Rattle.wb_history.specs.Past.{Past}
 use Rattle.wb_edit.specs.declared.refusal.Refusal.TheVariants.{StrangePass}
 use Rattle.wb_requests.specs.declared.requests.request.Request.{Request}
@@ -264,16 +264,6 @@ tells_nothing opening c n seats entries settled history = record {
 }
 
 -- ---- how many entries there are in all lists
-
-pub count_more : (lists : List (List Entry)) (k : ℕ) (e : Entry) (n m : ℕ) → k < length lists → n ≡ count_of lists → m ≡ n + 1
-    → m ≡ count_of (slice_set lists k (list_of lists k ++ e ∷ []))
-count_more lists k e n m within was now =
-    let both = sum_by-set (λ (es : List Entry). length es) lists k (list_of lists k ++ e ∷ []) [] within in
-    let long = length-append (list_of lists k) (e ∷ []) in
-    omega (arith, both, long, was, now)
-
-pub count_less : (lists : List (List Entry)) (k : ℕ) → k < length lists → count_of (slice_set lists k []) + length (list_of lists k) ≡ count_of lists
-count_less lists k within = let both = sum_by-set (λ (es : List Entry). length es) lists k [] [] within in omega (arith, both)
 
 pub count_none : (n : ℕ) → count_of (empty_lists n) ≡ 0
 count_none zero = refl

@@ -1,10 +1,8 @@
 -- Which replies leave the history.
-use Rattle.std.proofs.Common.{◌≡◌, ℕ, zero, suc, List, [], ◌∷◌, Bool, true, false, ◌&&◌, Option, Some, None, Ok, Err, MatchBool, Result, ap, refl, sym, subst}
+use Rattle.std.proofs.Common.{◌≡◌, ℕ, List, [], ◌∷◌, Bool, true, false, ◌&&◌, Option, Some, None, Ok, MatchBool, ap, refl, sym, subst}
 use Rattle.wb_history.specs.Past.{Past}
 use Rattle.wb_history.specs.declared.query.Answer.{Answer}
 use Rattle.wb_edit.specs.declared.refusal.Refusal.{Refusal}
-use Rattle.wb_edit.specs.declared.refusal.Refusal.TheVariants.{NoSuchEdit}
-use Rattle.wb_log.specs.Cascades.{DependentsReply, CascadeReply, OfNumber}
 use Rattle.wb_requests.specs.declared.requests.request.Request.{Request}
 use Rattle.wb_requests.specs.declared.requests.request.Request.TheVariants.{Change, Undo, Redo, Cascade, Dependents, Ask, Print, History, Edits, Explain}
 use Rattle.wb_machine.specs.Machine.{Step}
@@ -133,26 +131,6 @@ cascaded_leaves p (History None) ks n q none s = absurd s
 cascaded_leaves p (History (Some k)) ks n q none s = absurd s
 cascaded_leaves p Edits ks n q none s = absurd s
 cascaded_leaves p (Explain line) ks n q none s = absurd s
-
-pub is_cascade : (asked : Request) (k : ℕ) → cascade_in asked ≡ Some k → asked ≡ Cascade k
-is_cascade (Cascade j) k is = cc
-is_cascade (Change e) k is = cc
-is_cascade (Undo j) k is = cc
-is_cascade (Redo j) k is = cc
-is_cascade (Dependents j) k is = cc
-is_cascade (Ask asked) k is = cc
-is_cascade Print k is = cc
-is_cascade (History from) k is = cc
-is_cascade Edits k is = cc
-is_cascade (Explain line) k is = cc
-
-err_same : {X Y : Type 0} (v w : Refusal) → ◌≡◌ {A = Result X Refusal} (Err v) (Err w) → ◌≡◌ {A = Result Y Refusal} (Err v) (Err w)
-err_same v w e = let same : v ≡ w = cc in ap Err same
-
--- An undo with dependents is refused as the question for them is.
-pub refused_alike : (es : _) (number : ℕ) (why : Refusal) → OfNumber (DependentsReply es) number (Err why) → OfNumber (CascadeReply es) number (Err why)
-refused_alike es zero why reply = err_same why NoSuchEdit reply
-refused_alike es (suc k) why reply = reply
 
 pub unentered_leaves : (p : Past) (asked : Request) (r : Reply) (q : Past) → Step p asked r q → is_entered r ≡ false → q ≡ p
 unentered_leaves p asked (Edited k n) q s e = cc

@@ -43,7 +43,7 @@ name_at names place = slice_index_or names place []
 abbrev pub told : ℕ → Name → Brief → Reply → Entry
 told seat a b r = record { seat = seat; request = request_of a b; reply = r }
 
--- the same, where it was answered
+-- the entry of a seat, a name, what was asked of it, and the answer that was given
 abbrev pub answered : ℕ → Name → Brief → Answer → Entry
 answered seat a b x = told seat a b (Answered x)
 

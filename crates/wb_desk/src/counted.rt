@@ -34,14 +34,19 @@ impl<L: Ledger> Counted<L> {
         request: Request,
         mover: &M,
     ) -> Reply
-        ensures course { (opening : Past) (all : List Marked) → Tells opening all self.old.journal → Tells opening (course_after all pass.old.seat request result) self.new.journal }
+        // The reply.
         ensures strange { IsStrange self.old.journal pass.old.seat pass.old.own result }
         ensures answers { AnswersCourse self.old.journal pass.old.seat request result self.new.journal }
         ensures left { leaves_all result ≡ true → self.new.journal.history ≡ self.old.journal.history }
+
+        // The journal goes on with this entry.
+        ensures course { (opening : Past) (all : List Marked) → Tells opening all self.old.journal → Tells opening (course_after all pass.old.seat request result) self.new.journal }
         ensures seats { self.new.journal.seats ≡ self.old.journal.seats }
         ensures settled { self.new.journal.settled ≡ self.old.journal.settled }
         ensures entries { count_of self.new.journal.entries ≡ share_after (count_of self.old.journal.entries) result }
         ensures total { self.new.calls.total ≡ share_after self.old.calls.total result }
+
+        // The pass.
         ensures seat { pass.new.seat ≡ pass.old.seat }
         ensures own { pass.new.own ≡ own_after pass.old.seat pass.old.own request result }
         ensures share { pass.new.share ≡ share_after pass.old.share result }
