@@ -45,7 +45,7 @@ lies_on s e l x = unwrap_or (locale_by s e x.0) 0 == l
 abbrev pub piece_on : Cells → (a e : Name) → (l : ℕ) → List (Index × ℤ)
 piece_on s a e l = filter (lies_on s e l) (elements s a)
 
--- the same where there is such a locale; they are numbered from 0
+-- the elements of the array a on locale l, where there is such a locale; they are numbered from 0
 abbrev pub piece_by : Cells → (a e : Name) → (l : ℕ) → Result (List (Index × ℤ)) why.WhyRefused
 piece_by s a e l = if nat_lt l (locales_of s e) then Ok (piece_on s a e l) else Err OutOfDomain
 

@@ -31,12 +31,12 @@ abbrev pub value_inside : Cells → Name → Result (Unit {0}) why.WhyRefused �
 value_inside s a (Ok there) = element_or_refusal (get s (Implicit a))
 value_inside s a (Err e) = Err e
 
--- the same, at an index of the parent
+-- the implicit value of an array at an index, where the index is one of the parent
 abbrev pub value_within : Cells → Name → Index → Result Name why.WhyRefused → Result ℤ why.WhyRefused
 value_within s a i (Ok parent) = value_inside s a (is_there (get s (In parent i)))
 value_within s a i (Err e) = Err e
 
--- the same, over the sparse domain d
+-- the implicit value of an array at an index, over the sparse domain d
 abbrev pub value_over : Cells → (a d : Name) → Index → Result (Unit {0}) why.WhyRefused → Result ℤ why.WhyRefused
 value_over s a d i (Ok sparse) = value_within s a i (parent_in (get s (Object d)))
 value_over s a d i (Err e) = Err e
@@ -85,7 +85,7 @@ abbrev pub note_answer : Option Numbered → Result Answer Refusal
 note_answer (Some x) = Ok (NoteIs (note_of x.edit))
 note_answer None = Err NoSuchEdit
 
--- the same of the note alone, if there is an edit
+-- the note that was looked up, if there is an edit
 abbrev pub note_told : Option (Option (List ℕ)) → Result Answer Refusal
 note_told (Some n) = Ok (NoteIs n)
 note_told None = Err NoSuchEdit
