@@ -1,18 +1,16 @@
 -- What a step of a logged request says of its grant.
-use Rattle.std.proofs.Common.{◌≡◌, ◌≢◌, inl, inr, ℕ, Bool, true, false, IfOk, List, [], Some, Result, Ok, Err, refl, sym, ◌∙◌, subst}
+use Rattle.std.proofs.Common.{◌≡◌, ◌≢◌, Bool, true, false, IfOk, Some, Result, Ok, Err, refl, sym, ◌∙◌}
 use Rattle.wb_history.proofs.OneAnswer.{edit_answer_law, undo_answer_law, redo_answer_law}
 use Rattle.wb_edit.specs.Edits.{meaning}
 use Rattle.wb_history.specs.Past.{Past, meant}
 use Rattle.wb_edit.specs.declared.refusal.Refusal.{Refusal}
 use Rattle.wb_edit.specs.declared.refusal.Refusal.TheVariants.{NoMemory}
-use Rattle.wb_requests.specs.Requests.{request}
 use Rattle.wb_requests.specs.declared.requests.request.Request.{Request}
 use Rattle.wb_requests.specs.declared.requests.request.Request.TheVariants.{Change, Undo, Redo}
 use Rattle.wb_machine.specs.Machine.{Step}
 use Rattle.wb_machine.specs.declared.replies.reply.Reply.{Reply}
 use Rattle.wb_machine.specs.declared.replies.reply.Reply.TheVariants.{Edited, Undone, Redone, Refused}
-use Rattle.wb_keeping.specs.Granting.Granting.{Grants, GrantsRequest, IsLogged, Begins}
-use Rattle.wb_keeping.specs.Granting.Beginning.{no_request}
+use Rattle.wb_keeping.specs.Granting.Granting.{GrantsRequest, IsLogged}
 
 ok_not : {X : Type 0} {x : X} {e : Refusal} → Ok x ≡ Err e → ⊥
 ok_not h = cc
@@ -42,24 +40,6 @@ granted p (Redo k) (Redone j n) q logged step some = (n, (refl, step.1, step.2))
 granted p (Redo k) (Refused why) q logged step some = absurd (some why refl)
 granted p (Redo k) r q logged step some = absurd step
 granted p asked r q logged step some = absurd logged
-
-pub only_logged : (p : Past) (asked : Request) (q : Past) → GrantsRequest p asked q → IsLogged asked
-only_logged p (Change e) q granted = tt
-only_logged p (Undo (Some k)) q granted = tt
-only_logged p (Redo k) q granted = tt
-only_logged p asked q granted = absurd granted
-
--- no grant, where the line is read as a request that is granted to nobody, or as none
-pub not_this : (p : Past) (line : List ℕ) (asked : Request) (next : Past) → request line ≡ Ok asked → (GrantsRequest p asked next → ⊥) → Grants p line next → ⊥
-not_this p line asked next read never (inl (other, also, granted)) =
-    let both : Ok other ≡ Ok asked = sym also ∙ read in
-    let same : other ≡ asked = cc in
-    never (subst (λ (a : Request). GrantsRequest p a next) same granted)
-not_this p line asked next read never (inr begun) = ok_not (sym read ∙ no_request line next begun.1)
-
-pub not_read : (p : Past) (line : List ℕ) (why : Refusal) (next : Past) → request line ≡ Err why → ((p.entries ≡ []) × Begins line next → ⊥) → Grants p line next → ⊥
-not_read p line why next read never (inl (other, also, granted)) = ok_not (sym also ∙ read)
-not_read p line why next read never (inr begun) = never begun
 
 pub refused_true : {E : Type 0} (r : Result Bool E) (p : Past) (asked : Request) (why : Refusal) (q : Past) → IfOk r (λ is. (is ≡ false) × (why ≢ NoMemory)) →
     IfOk r (λ is. is ≡ true → GrantsRequest p asked q)
