@@ -1,10 +1,9 @@
 -- Turns behind turns.
-use Rattle.std.proofs.Common.{◌≡◌, ℕ, ◌+◌, ◌<◌, ◌≤◌, Result, Ok, Err, List, [], ◌∷◌, ◌++◌, length, take, get_or, refl, sym, ap, ◌∙◌, subst, inl, inr, append_assoc, append-nil}
+use Rattle.std.proofs.Common.{◌≡◌, ℕ, ◌<◌, ◌≤◌, Result, Ok, Err, List, ◌++◌, refl, sym, ap, ◌∙◌, subst, inr, append_assoc}
 use Rattle.std.specs.Prelude.{◌^◌, IfErr}
-use Rattle.std.proofs.lemmas.List.{take_more}
 use Rattle.std.proofs.lemmas.List.Concat.{flat_map-append}
 use Rattle.wb_keep.specs.Disk.Device.{LeavesOnly}
-use Rattle.wb_keep.proofs.Disks.Moments.{started, joined}
+use Rattle.wb_keep.proofs.Disks.Moments.{joined}
 use Rattle.wb_keep.specs.Lines.{recovered, HasHeader}
 use Rattle.wb_keep.specs.Keep.{IsSettled, IsBeforeOrAfter}
 use Rattle.wb_keep.specs.Repair.{StandsForTheSame}
@@ -16,26 +15,11 @@ use Rattle.wb_kept_group.specs.Together.{changes_in, Tells}
 pub changes-append : (xs ys : List (List (List ℕ))) → changes_in (xs ++ ys) ≡ changes_in xs ++ changes_in ys
 changes-append xs ys = flat_map-append (λ (turn : List (List ℕ)). turn) xs ys
 
--- one turn more was joined
-pub changes_more : (turns : List (List (List ℕ))) (i : ℕ) (turn : List (List ℕ)) → i < length turns → turn ≡ get_or turns i turn
-    → changes_in (take (i + 1) turns) ≡ changes_in (take i turns) ++ turn
-changes_more turns i turn lt is =
-    ap changes_in (take_more turns i turn lt)
-    ∙ changes-append (take i turns) (get_or turns i turn ∷ [])
-    ∙ ap (λ (ls : List (List ℕ)). changes_in (take i turns) ++ ls) (append-nil (get_or turns i turn) ∙ sym is)
-
 -- the lines from before, and the changes of turns behind turns
 pub lines_behind : (opening : List (List ℕ)) (before turns : List (List (List ℕ))) → (opening ++ changes_in before) ++ changes_in turns ≡ opening ++ changes_in (before ++ turns)
 lines_behind opening before turns = append_assoc opening (changes_in before) (changes_in turns) ∙ ap (λ (ls : List (List ℕ)). opening ++ ls) (sym (changes-append before turns))
 
 module _ {D : Type 0} (seen : D → List ℕ) (may_leave : D → List ℕ → Type 0) (moment : D → ℕ) (left_since : D → ℕ → List ℕ → Type 0) where
-  -- without a call, a crash leaves the lines from before
-  pub idle : ((file : D) (c : List ℕ) → left_since file (moment file) c → may_leave file c) → (log : LineLog D) (more : List (List ℕ)) → IsSettled seen may_leave log
-      → LeavesOnly moment left_since log.device log.device (IsBeforeOrAfter (recovered (seen log.device)) more)
-  idle only_now log more s = started moment left_since log.device (IsBeforeOrAfter (recovered (seen log.device)) more)
-      (λ c left. subst (IsBeforeOrAfter (recovered (seen log.device)) more) (sym (s.durable c (only_now log.device c left)))
-      (record { head = subst HasHeader (sym s.file.is) refl; lines = inl refl }))
-
   -- lines were added, and then the file was brought to an end in which it stands for the same
   pub last_moments : (old mid : LineLog D) (new : D) (was before text more : List (List ℕ)) → IsSettled seen may_leave mid → recovered (seen mid.device) ≡ was ++ text → was ≡ before → text ≡ more
       → LeavesOnly moment left_since old.device mid.device (IsBeforeOrAfter was text) → LeavesOnly moment left_since mid.device new (StandsForTheSame (seen mid.device))

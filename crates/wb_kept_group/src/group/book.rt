@@ -167,7 +167,7 @@ impl<G: Group, C> Front<G, C> {
     }
 
     /// Two beginnings of one length are the same.
-    pub fn agrees(&self, other: &Front<G, C>)
+    pub(crate) fn agrees(&self, other: &Front<G, C>)
         requires { length self.now ≡ length other.now }
         ensures { self.now ≡ other.now }
     {
