@@ -86,16 +86,6 @@ kept_same opening lines k l kept course made waiting open_same = record {
   leads = λ now. rw (course, made, waiting) (kept.leads (sym open_same ∙ now));
 }
 
--- it was closed
-pub kept_closed : (opening : Past) (lines : List (List ℕ)) (k l : KeptCourse) → IsKeptCourse opening lines k → l.course ≡ k.course → l.made ≡ k.made
-    → (l.is_open ≡ true → ⊥) → IsKeptCourse opening lines l
-kept_closed opening lines k l kept same made closed = record {
-  all = kept.all;
-  tells = subst (λ (c : Course). Tells opening kept.all c) (sym same) kept.tells;
-  fronts = subst (λ turns. EachFrontStands opening lines (all_of kept.all) turns) (sym made) kept.fronts;
-  leads = λ now. absurd (closed now);
-}
-
 -- ---- a seat that is settled early
 
 same_settled : (ms : List Marked) (seat : ℕ) (r : Result ℕ Difference) → all_of (course_settled ms seat r) ≡ all_of ms
