@@ -1,7 +1,6 @@
 -- Edits are read from the last line up.
-use Rattle.std.proofs.Common.{◌≡◌, ℕ, Bool, ◌<◌, List, [], ◌∷◌, ◌++◌, length, map, codes, reverse, refl, sym, ap, ◌∙◌, subst, Option, Some, None, ◌⊎◌, inl, inr}
-use Rattle.std.proofs.Common.{Ok, arith}
-use Rattle.std.proofs.lemmas.List.{append-nil, append_assoc, reverse-append, length-append, map-append}
+use Rattle.std.proofs.Common.{◌≡◌, ℕ, Bool, List, [], ◌∷◌, ◌++◌, map, codes, reverse, refl, sym, ap, ◌∙◌, subst, Option, Some, None, ◌⊎◌, inl, inr, Ok, arith}
+use Rattle.std.proofs.lemmas.List.{append-nil, append_assoc, reverse-append, map-append}
 use Rattle.wb_edit.specs.declared.edit.Edit.{Edit}
 use Rattle.wb_history.specs.Past.{Numbered}
 use Rattle.wb_history.specs.Restored.{one_of}
@@ -19,9 +18,6 @@ use Rattle.wb_machine.proofs.HistoryTexts.Below.{unbroken_said, marked_said, bel
 abbrev pub Left : List ℕ → List ℕ → List Numbered → Type 0
 Left text rest read = (es : List Numbered) → AreSaid es → text ≡ heading es ++ below es → (fs : List Numbered) × AreSaid fs × (rest ≡ heading es ++ below fs) ×
     (es ≡ fs ++ reverse read)
-
-pub left_first : (text : List ℕ) → Left text text []
-left_first text es told is = (es, told, is, sym (append-nil es))
 
 abbrev first_or : {A B : Type 0} → A → Option (A × B) → A
 first_or a None = a
@@ -134,16 +130,6 @@ left_next text rest before line spelled read b edit left last marked found es to
             edit_here.all ∙ sym (ap (λ zs. edit_here.edits ++ zs) (reverse-append read (one_of edit b ∷ []) ∙ ap (λ z. z ∷ reverse read) y)),
           )
     ]
-
-pub no_line : (text rest : List ℕ) (read : List Numbered) → Left text rest read → IsLastLine rest None → ReadsEdits text None
-no_line text rest read left last es told is =
-    let (fs, said_fs, here, all) = left es told is in
-    let (above, e) = heading_last es in
-    let whole : rest ≡ above ++ 10 ∷ (count_line es ++ below fs) = here ∙ ap (λ t. t ++ below fs) e ∙ append_assoc above (10 ∷ count_line es) (below fs) in
-    absurd (broken above (count_line es ++ below fs) (subst IsUnbroken whole last))
-
-pub shorter : (rest before line : List ℕ) → IsLastLine rest (Some (before, line)) → length before < length rest
-shorter rest before line last = let n = length-append before (10 ∷ line) in omega (arith, ap length last.0, n)
 
 -- ---- the end of the text
 

@@ -29,6 +29,6 @@ below es = flat_map (λ x. 10 ∷ said x) es
 abbrev pub ReadsEdits : List ℕ → Option (List Numbered) → Type 0
 ReadsEdits bytes read = (es : List Numbered) → AreSaid es → bytes ≡ heading es ++ below es → read ≡ Some es
 
--- the same of the whole text
+-- The whole text of a history is read as its edits; of other texts nothing is said.
 abbrev pub ReadsHistory : List ℕ → Option (List Numbered) → Type 0
 ReadsHistory text read = (es : List Numbered) → AreSaid es → text ≡ history_text es → read ≡ Some es
