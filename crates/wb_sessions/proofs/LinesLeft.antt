@@ -1,5 +1,5 @@
 -- The edits that lines say, and where no history goes on.
-use Rattle.std.proofs.Common.{◌≡◌, ◌∙◌, ◌+◌, ◌-◌, ◌<◌, ◌≤◌, ℕ, Bool, List, [], ◌∷◌, ◌++◌, length, take, drop, codes, Option, Some, None, Ok, refl, sym, ap, subst, arith}
+use Rattle.std.proofs.Common.{◌≡◌, ◌∙◌, ◌+◌, ◌-◌, ◌≤◌, ℕ, Bool, List, [], ◌∷◌, ◌++◌, length, take, drop, codes, Option, Some, None, Ok, refl, sym, ap, subst, arith}
 use Rattle.std.specs.List.{flat_map}
 use Rattle.std.proofs.lemmas.Grind.{flat_map-append}
 use Rattle.std.proofs.lemmas.List.{append-nil, append_assoc, length-append}
@@ -129,12 +129,6 @@ left_next below left line rest es fs h e (x, told, is, more) =
       same = h.same ∙ ap (λ t. flat_map edit_line es ++ t) (e ∙ ap (λ l. ended l ++ rest) is)
           ∙ sym (append_assoc (flat_map edit_line es) (edit_line x) rest) ∙ sym (ap (λ t. t ++ rest) (all_lines es x));
     })
-
-pub shorter : (left line rest : List ℕ) → left ≡ ended line ++ rest → length rest < length left
-shorter left line rest e =
-    let all = length-append (ended line) rest in
-    let one = length-append line (10 ∷ []) in
-    omega (arith, ap length e, all, one)
 
 -- ---- the place among the bytes
 

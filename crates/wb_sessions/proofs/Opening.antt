@@ -70,11 +70,6 @@ of_some (Some y) P x e h = let f : y ≡ x = cc in subst P f h
 
 -- ---- how often a reader was read
 
-pub failed_at_once : (f : Bool) (a c : ℕ) (w : Bool) → HasFailed f a c w → HasFailedByNow f a c w
-failed_at_once f a c w (inl h) = inl h
-failed_at_once f a c w (inr (inl h)) = inr (inl (read_limit, omega arith, h))
-failed_at_once f a c w (inr (inr h)) = inr (inr h)
-
 -- after so many reads before
 pub failed_later : (m : ℕ) (f : Bool) (a b c : ℕ) (w : Bool) → RisesBy m a b → HasFailed f b c w → HasFailedByNow f a c w
 failed_later m f a b c w p (inl h) = inl h

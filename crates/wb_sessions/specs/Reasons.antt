@@ -31,7 +31,7 @@ abbrev pub front_of : (ours ended : Bool) → Reason
 front_of true ended = end_of ended
 front_of false ended = reasons.NotOurs
 
--- the same, where they may begin as a journal
+-- by how bytes begin, as a journal, as a text of ours or as neither, and end
 abbrev pub shape_of : (journal ours ended : Bool) → Reason
 shape_of true ours ended = reasons.Journal
 shape_of false ours ended = front_of ours ended

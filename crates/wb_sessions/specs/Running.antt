@@ -20,7 +20,7 @@ status_of (NoMemory n) = 4
 abbrev pub HasFailed : (read_failed : Bool) → (before after : ℕ) → (write_failed : Bool) → Type 0
 HasFailed read_failed before after write_failed = (read_failed ≡ true) ⊎ (RisesBy read_limit before after ⊎ (write_failed ≡ true))
 
--- the same, but that as many reads as are allowed were made, or more
+-- the latest read failed, or at least as many reads as are allowed were made, or the latest write or flush failed
 abbrev pub HasFailedByNow : (read_failed : Bool) → (before after : ℕ) → (write_failed : Bool) → Type 0
 HasFailedByNow read_failed before after write_failed =
     (read_failed ≡ true) ⊎ (((made : ℕ) × (read_limit ≤ made) × RisesBy made before after) ⊎ (write_failed ≡ true))

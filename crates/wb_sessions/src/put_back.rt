@@ -32,7 +32,7 @@ impl<R: Source> PutBack<R> {
     }
 
     /// Puts bytes back before all that is left.
-    pub fn put_back(&mut self, bytes: &[u8]) -> Result<(), AllocError>
+    pub(crate) fn put_back(&mut self, bytes: &[u8]) -> Result<(), AllocError>
         ensures ok { OnOk result (left_in R.remaining self.new ≡ option_map (λ t. bytes.now ++ t) (left_in R.remaining self.old)) }
         ensures err { OnErr result (self.new ≡ self.old) }
         ensures reads { reads_in self.new ≡ reads_in self.old }
