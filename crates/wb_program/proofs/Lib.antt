@@ -1,7 +1,6 @@
 pub mod Hosting
 pub mod Finishing
 pub mod Used
-pub mod KeptReading
 pub mod KeptEnding
 pub mod KeptHosting
 pub mod Telling

@@ -1,24 +1,16 @@
 -- How a desk that stays ends.
-use Rattle.std.proofs.Common.{◌≡◌, ◌∙◌, ℕ, zero, suc, List, [], ◌∷◌, ◌++◌, ◌+◌, length, length-append, refl, ap, subst, arith}
+use Rattle.std.proofs.Common.{◌≡◌, ◌∙◌, ℕ, List, subst}
 use Rattle.wb_lending.specs.Lending.{AllLent}
 use Rattle.wb_lending.specs.declared.guests.Guests as Guests
 use Rattle.wb_lines.specs.declared.sink.Sink as Sink
 use Rattle.wb_lines.specs.declared.source.Source as Source
 use Rattle.wb_desk.specs.Courses.{Course, IsCourse, Marked, Start, Tells}
 use Rattle.wb_desk.specs.Early.{EndsWithAll}
-use Rattle.wb_desk.specs.Serving.{Held, new_pass, new_passes}
+use Rattle.wb_desk.specs.Serving.{Held, new_passes}
 use Rattle.wb_desk.specs.Settling.{IsSettled, IsCause}
 use Rattle.wb_desk.specs.declared.settling.Cause.{Cause}
 use Rattle.wb_program.specs.Stays.{hosts_at, Disagrees, Ended, IsStay}
 use Rattle.wb_visits.specs.declared.visit.Visit.{Visit}
-
--- there are as many new passes as seats
-pub so_many_passes : (n : ℕ) → length (new_passes n) ≡ n
-so_many_passes zero = refl
-so_many_passes (suc n) =
-    let all : length (new_passes n ++ new_pass n ∷ []) ≡ length (new_passes n) + 1 = length-append (new_passes n) (new_pass n ∷ []) in
-    let next : n + 1 ≡ suc n = omega arith in
-    all ∙ (ap (λ k. k + 1) (so_many_passes n) ∙ next)
 
 module _ {I O G X E : Type 0} (source : Source.Ghosts I) (sink : Sink.Ghosts O) (guests : Guests.Ghosts G (Visit I O) X E) where
   abbrev ended : (opening : Start) (n seats : ℕ) (c : Course) (hs ks : List Held) → n ≡ seats → hs ≡ new_passes seats

@@ -111,7 +111,7 @@ module _ {I O N D J H : Type 0} (source : Source.Ghosts I) (sink : Sink.Ghosts O
     pub closed : files.closed after run.file
     pub told : files.told after ≡ run.fault
 
-  -- the same, or it was not opened, which is told
+  -- the desk was kept at the path, or its file was not opened, which is told
   abbrev pub UsesDesk : (path : List ℕ) → (seats status : ℕ) → (port_failed : Bool) → (after : J) → Streams → Type 0
   UsesDesk path seats status port_failed after s = KeepsDesk path seats status port_failed after s ⊎ IsNotOpened device files status after s
 

@@ -81,6 +81,6 @@ module _ {I O G X E D J H : Type 0} (source : Source.Ghosts I) (sink : Sink.Ghos
     pub closed : files.closed after run.file
     pub told : files.told after ≡ run.fault
 
-  -- the same, or it was not opened, which is told
+  -- the desk that stays was kept at the path, or its file was not opened, which is told
   abbrev pub UsesStay : (path : List ℕ) → (place : Place) → (seats status : ℕ) → (port_failed : Bool) → (after : J) → Streams → Type 0
   UsesStay path place seats status port_failed after s = KeepsStay path place seats status port_failed after s ⊎ IsNotOpened device files status after s

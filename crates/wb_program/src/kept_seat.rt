@@ -74,7 +74,7 @@ impl<D: Device> Failing<D> {
     }
 
     /// Whether a commit was refused since the file failed, after a desk was not settled for this cause.
-    pub fn after(self, cause: SettleErr) -> Failing<D>
+    pub(crate) fn after(self, cause: SettleErr) -> Failing<D>
         requires { cause ≡ SettleErr.NotKept CommitErr.DiskFault → FailsOnce D.faults }
     {
         match cause {
@@ -112,7 +112,7 @@ impl<L: KeptOpening, D: Device + Drop> KeptDesk<L, D> {
     }
 
     /// The desk, and whether its file has failed.
-    pub fn into_parts(self) -> (Desk<L, D>, Failing<D>) {
+    pub(crate) fn into_parts(self) -> (Desk<L, D>, Failing<D>) {
         let KeptDesk {
             desk,
             failing,
@@ -122,12 +122,12 @@ impl<L: KeptOpening, D: Device + Drop> KeptDesk<L, D> {
     }
 
     /// Whether a turn could not be kept, for whatever cause, so that no later one is.
-    pub fn is_shut(&self) -> bool {
+    pub(crate) fn is_shut(&self) -> bool {
         self.is_shut.load(SeqCst)
     }
 
     /// Settles the seat of a pass whose connection ended, in a turn of its own, or tells where the pass and the desk first differ.
-    pub fn settle_left<R: Wait>(
+    pub(crate) fn settle_left<R: Wait>(
         &self,
         rt: &R,
         early: &Early<L>,

@@ -46,7 +46,7 @@ fn blamed<D: Device + Drop>(failing: &Failing<D>, status: u8) -> (u8, Option<Fil
 }
 
 /// How a day comes out that never begins.
-pub fn never_begun<D: Device + Drop>(status: u8, kept: Kept<History, D>) -> KeptRun<D>
+pub(crate) fn never_begun<D: Device + Drop>(status: u8, kept: Kept<History, D>) -> KeptRun<D>
     ensures { result ≡ record { status = status; fault = None; file = kept.log.device } }
 {
     KeptRun {
@@ -57,7 +57,7 @@ pub fn never_begun<D: Device + Drop>(status: u8, kept: Kept<History, D>) -> Kept
 }
 
 /// How a day comes out that was not settled.
-pub fn broken_off<L: KeptOpening, D: Device + Drop>(
+pub(crate) fn broken_off<L: KeptOpening, D: Device + Drop>(
     seats: &Seats<L>,
     log: LineLog<D>,
     failing: &Failing<D>,
@@ -79,7 +79,7 @@ pub fn broken_off<L: KeptOpening, D: Device + Drop>(
 }
 
 /// How a day comes out where no connection or thread could be had.
-pub fn left_off<L: KeptOpening, D: Device + Drop>(
+pub(crate) fn left_off<L: KeptOpening, D: Device + Drop>(
     alloc: Global,
     desk: KeptDesk<L, D>,
     status: u8,
@@ -108,7 +108,7 @@ pub fn left_off<L: KeptOpening, D: Device + Drop>(
 
 /// The exit status of a day that was not settled, if its file did not fail. (A desk or a keeper that is closed had no memory
 /// then.)
-pub fn status_of_cause(cause: SettleErr) -> u8
+pub(crate) fn status_of_cause(cause: SettleErr) -> u8
     ensures fault { IsFault result }
     ensures passes { result ≡ 3 → ((why : Cause) × (cause ≡ SettleErr.Passes why)) }
 {
@@ -156,7 +156,7 @@ fn settled<L: KeptOpening, N: Accepts<I, O>, I: Source, O: Sink, D: Device + Dro
 }
 
 /// Answers what is heard of a connection at a seat until its end or a fault, and gives the pass back.
-pub fn serve_kept_connection<
+pub(crate) fn serve_kept_connection<
     L: KeptOpening,
     S: Settlings<L>,
     D: Device + Drop,

@@ -11,6 +11,6 @@ mod stays;
 pub use crate::doing::do_asked;
 pub use crate::kept_hosting::host_kept_with;
 pub use crate::kept_seat::{Failing, KeptDesk};
-pub use crate::kept_serving::{serve_kept_connection, serve_kept_on};
+pub use crate::kept_serving::serve_kept_on;
 pub use crate::stays::kept_staying::{lend_kept_on, stay_kept, stay_kept_with};
 pub use crate::stays::staying::{lend_on, stay};
