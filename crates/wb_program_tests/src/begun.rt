@@ -21,7 +21,7 @@ const NEVER: usize = 1000;
 const HELD: &[u8] =
     b"chapel-workbook 3\n {\"d\":\"D\",\"is\":\"{1..2}\",\"map\":\"none\",\"op\":\"domain\"}\n {\"k\":1,\"op\":\"undo\"}\n#";
 
-// The same, begun with the text of its history.
+// That journal, begun with the text of its history.
 const ANEW: &[u8] =
     b"chapel-workbook 3\n {\"op\":\"resume\",\"text\":\"chapel-workbook 2\\nhistory 1\\n- {\\\"d\\\":\\\"D\\\",\\\"is\\\":\\\"{1..2}\\\",\\\"map\\\":\\\"none\\\",\\\"op\\\":\\\"domain\\\"}\\nend\\n\"}\n#";
 
