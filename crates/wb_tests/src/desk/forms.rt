@@ -304,7 +304,7 @@ fn copy_of(alloc: Global, entry: &Entry) -> Result<Entry, Fail> {
     })
 }
 
-// The same list with another entry at a place.
+// The list with another entry at a place.
 fn with_another(alloc: Global, own: &Records, at: usize, other: &Entry) -> Result<Records, Fail> {
     let mut list = Records::new(alloc, other.seat);
     for place in 0..own.len() {
