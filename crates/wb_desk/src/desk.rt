@@ -20,7 +20,7 @@ use std::sync::{Mutex, MutexGuard, Wait};
 use thiserror::Error;
 use wb_arrays::Mover;
 use wb_history::History;
-use wb_locks::take_lock;
+use wb_locks::{look_for_lock, take_lock};
 use wb_machine::Reply;
 use wb_requests::Request;
 
@@ -35,8 +35,13 @@ pub enum DeskErr {
     NoMemory,
 }
 
-/// A workbook that several seats share. Whoever wants its lock takes the door first, and keeps it until the lock is had: who lets
-/// the lock go can't have it again before the one at the door had it.
+/// So often a thread looks for the lock beside others, before it closes the door.
+const LOOKS_AT_OPEN_DOOR: u32 = 512;
+
+/// A workbook that several seats share. Whoever wants its lock closes the door first, a second lock, and keeps it closed until the
+/// lock is had: who lets the lock go can't have it again before the one at the door had it. A turn behind one of many requests comes
+/// through the open door and looks for the lock beside others first: so of seats that have much to ask any one whose thread runs at
+/// the moment has it next.
 #[derive(Drop)]
 pub struct Desk<L: Opening> {
     door: Mutex<()>,
@@ -96,8 +101,14 @@ impl<L: Opening> Desk<L> {
         }
     }
 
-    // Takes the lock, after the door.
-    pub(crate) fn taken<R: Wait>(&self, rt: &R) -> MutexGuard<'_, Shared<L>> {
+    // Takes the lock, behind the closed door; where that is asked for, after looks beside others once the door is open.
+    pub(crate) fn taken<R: Wait>(&self, rt: &R, beside_others: bool) -> MutexGuard<'_, Shared<L>> {
+        if beside_others {
+            drop(take_lock(&self.door, rt));
+            if let Some(guard) = look_for_lock(&self.shared, LOOKS_AT_OPEN_DOOR) {
+                return guard;
+            }
+        }
         let door = take_lock(&self.door, rt);
         let guard = take_lock(&self.shared, rt);
         drop(door);

@@ -123,6 +123,33 @@ fn enter_on_locale(
     }
 }
 
+// Enters a request that is made again of its name and the rest of it, and its reply, whole. (The request is large, and few entries
+// need it, so room for it is taken here alone.)
+#[inline(never)]
+fn enter_whole_again(
+    alloc: Global,
+    seat: usize,
+    at: &Placed,
+    reply: &Reply,
+    list: &mut Register,
+    own: &mut Register,
+) -> Result<(), NoMemory>
+    requires list { IsKept list.old × IsRoomy list.old }
+    requires own { IsKept own.old × IsRoomy own.old }
+    ensures kept { IsKept list.new × IsKept own.new }
+    ensures ok { OnOk result (BothEnter list.old list.new own.old own.new (entry seat (request_of at.now.name at.now.brief) reply.now)) }
+    ensures err { OnErr result (BothStay list.old list.new own.old own.new) }
+{
+    enter_whole(
+        alloc,
+        seat,
+        request_of(at.name, &at.brief),
+        reply,
+        list,
+        own,
+    )
+}
+
 // Enters what was asked of a name, and its reply. Memory may run out where that is no accepted new value.
 fn enter_placed(
     alloc: Global,
@@ -150,14 +177,14 @@ fn enter_placed(
     if let Brief::Piece(locale) = &at.brief {
         return enter_on_locale(alloc, seat, at, locale, reply, list, own);
     }
-    enter_whole(
-        alloc,
-        seat,
-        request_of(at.name, &at.brief),
-        reply,
-        list,
-        own,
-    )
+    enter_whole_again(alloc, seat, at, reply, list, own)
+}
+
+/// Lets a request go. It is in a function of its own, and each caller moves the request on every way, so that only the ways that end
+/// with it make room for letting it go, and not the one that goes on.
+#[inline(always)]
+pub(crate) fn let_go(request: Request) {
+    let _ = request;
 }
 
 // Answers a request of a name whose places are known. Room is there.
@@ -492,7 +519,10 @@ fn answer_roomy<M: Mover>(
             }
             answer_change(alloc, history, seat, request, list, own, mover)
         }
-        Err(NoMemory) => Err(NoMemory),
+        Err(NoMemory) => {
+            let_go(request);
+            Err(NoMemory)
+        }
     }
 }
 
@@ -514,9 +544,11 @@ pub(crate) fn answer_in<M: Mover>(
     ensures err { OnErr result ((history.new ≡ history.old) × BothStay list.old list.new own.old own.new) }
 {
     if list.make_room().is_err() {
+        let_go(request);
         return Err(NoMemory);
     }
     if own.make_room().is_err() {
+        let_go(request);
         return Err(NoMemory);
     }
     answer_roomy(alloc, history, seat, request, list, own, mover)

@@ -7,6 +7,7 @@ ghost use Rattle.wb_desk.specs.Settling.{FirstDifference, IsSettled, IsCause};
 ghost use Rattle.wb_desk.specs.Serving.{Knows, IsStrange, Enters, entry, own_after, share_after, AnswersCourse};
 ghost use Rattle.wb_desk.specs.Early.{LetsGo};
 
+use crate::entering::let_go;
 use crate::pass::Pass;
 use crate::records::{Records, answer_at, clear_at, difference_at, no_records};
 use crate::settling::{Cause, Difference, first_cause};
@@ -136,6 +137,7 @@ impl Journal {
         ensures err { OnErr result ((self.new ≡ self.old) × (own.new ≡ own.old)) }
     {
         if self.count == usize::MAX {
+            let_go(request);
             return Err(NoMemory);
         }
         match answer_at(
@@ -170,6 +172,7 @@ impl Journal {
         ensures own { own.new ≡ own_after seat own.old request result }
     {
         if !self.knows(seat, own) {
+            let_go(request);
             return Reply::Refused(Refusal::StrangePass);
         }
         match self.answer_known(alloc, seat, own, request, mover) {

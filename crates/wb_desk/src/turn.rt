@@ -14,10 +14,15 @@ use wb_arrays::Mover;
 use wb_machine::Reply;
 use wb_requests::Request;
 
+/// So many requests at least had the lock together, where the next ones look for it beside others.
+const MANY: u64 = 16;
+
 /// A turn at a desk. It takes the desk's lock for its first request, and holds it until it is let go. It has to be ended.
 pub struct Turn<'d, L: Opening> {
     desk: &'d Desk<L>,
     held: Cell<Option<MutexGuard<'d, Shared<L>>>>,
+    // Whether many requests had the lock together when it was let go last.
+    had_many: Cell<bool>,
 }
 
 impl<'d, L: Opening> Turn<'d, L> {
@@ -26,6 +31,7 @@ impl<'d, L: Opening> Turn<'d, L> {
         Turn {
             desk,
             held: Cell::new(None),
+            had_many: Cell::new(false),
         }
     }
 
@@ -44,7 +50,7 @@ impl<'d, L: Opening> Turn<'d, L> {
     {
         let mut guard = match self.held.take() {
             Some(guard) => guard,
-            None => self.desk.taken(rt),
+            None => self.desk.taken(rt, self.had_many.get()),
         };
         let reply = serve(&mut guard, pass, request, mover);
         self.held.set(Some(guard));
@@ -61,21 +67,26 @@ impl<'d, L: Opening> Turn<'d, L> {
     {
         let mut guard = match self.held.take() {
             Some(guard) => guard,
-            None => self.desk.taken(rt),
+            None => self.desk.taken(rt, self.had_many.get()),
         };
         let settled = settle_seat(&mut guard, pass);
         self.held.set(Some(guard));
         settled
     }
 
-    /// Lets the lock go, if it is held.
-    pub fn let_go(&self) {
+    /// Lets the lock go, if it is held, after so many requests.
+    pub fn let_go_after(&self, requests: u64) {
         self.held.set(None);
+        self.had_many.set(requests >= MANY);
     }
 
     /// Ends the turn, and with it lets the lock go.
     pub fn end(self) {
-        let Turn { desk: _, held } = self;
+        let Turn {
+            desk: _,
+            held,
+            had_many: _,
+        } = self;
         let _ = held.into_inner();
     }
 }

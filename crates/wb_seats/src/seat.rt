@@ -254,7 +254,7 @@ fn serve_in_turns<L: Opening, S: Settlings<L>, R: Wait, I: Source, O: Sink, M: M
         ensures free { hold.new.is_held ≡ false }
         ensures unspent { (hold.new.spent ≡ 0) × (hold.new.answered ≡ 0) }
     {
-        held.let_go();
+        held.let_go_after(hold.answered);
         hold.let_go();
     };
     let _ = serve_turns::<
