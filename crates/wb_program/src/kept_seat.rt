@@ -127,7 +127,7 @@ impl<L: KeptOpening, D: Device + Drop> KeptDesk<L, D> {
     }
 
     /// Settles the seat of a pass whose connection ended, in a turn of its own, or tells where the pass and the desk first differ.
-    pub(crate) fn settle_left<R: Wait>(
+    pub fn settle_left<R: Wait>(
         &self,
         rt: &R,
         early: &Early<L>,
