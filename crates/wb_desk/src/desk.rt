@@ -36,7 +36,7 @@ pub enum DeskErr {
 }
 
 /// So often a thread looks for the lock beside others, before it closes the door.
-const LOOKS_AT_OPEN_DOOR: u32 = 512;
+const LOOKS_AT_OPEN_DOOR: u32 = 2_048;
 
 /// A workbook that several seats share. Whoever wants its lock closes the door first, a second lock, and keeps it closed until the
 /// lock is had: who lets the lock go can't have it again before the one at the door had it. A turn behind one of many requests comes
