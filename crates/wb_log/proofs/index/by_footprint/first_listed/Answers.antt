@@ -1,4 +1,4 @@
-use Rattle.std.proofs.Common.{◌≡◌, ℤ, [], ◌∷◌, ◌++◌, ◌+◌, Some, rules, w64, ap, ◌∙◌}
+use Rattle.std.proofs.Common.{ℤ, [], ◌∷◌, ◌++◌, ◌+◌, Some, rules, w64, ap, ◌∙◌}
 use Rattle.std.proofs.lemmas.Int.{to_z-of_z}
 use Rattle.selective_undo.specs.Log.{blocks_redo, first_from}
 use Rattle.wb_book.specs.Kept.{element_set}

@@ -1,4 +1,4 @@
-use Rattle.std.proofs.Common.{◌≡◌, true, Some, Ok, Err, OnOk, slice_set, length, sym, ap, subst, ◌∙◌}
+use Rattle.std.proofs.Common.{◌≡◌, true, Some, Ok, Err, slice_set, length, sym, ap, subst, ◌∙◌}
 use Rattle.std.proofs.lemmas.Option.{slice_get-get_or}
 use Rattle.wb_edit.specs.declared.refusal.Refusal.TheVariants.{NoMemory}
 use Rattle.wb_log.specs.Indexed.{Keeps, IsIndexed}

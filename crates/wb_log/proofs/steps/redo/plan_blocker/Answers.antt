@@ -1,4 +1,4 @@
-use Rattle.std.proofs.Common.{◌++◌, sym, ap, ◌∙◌}
+use Rattle.std.proofs.Common.{sym, ap, ◌∙◌}
 use Rattle.wb_log.specs.Kept.{redo_blocker}
 use Rattle.wb_log.proofs.steps.redo.plan_blocker.Goals as goal
 
