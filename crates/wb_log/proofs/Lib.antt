@@ -21,4 +21,5 @@ pub mod Filled
 pub mod Free
 pub mod Meets
 pub mod SetBack
+pub mod SetAgain
 pub mod Appended

@@ -284,13 +284,14 @@ fn set_back(changed: Cell, was: &Before) -> Inverse
     Inverse::new(Changes::one(CellChange::new(changed, was.value())))
 }
 
-// The pattern of what stands under a name, and that of an element.
-fn object_pattern(name: &Name) -> Pattern
+/// The pattern of what stands under a name.
+pub(crate) fn object_pattern(name: &Name) -> Pattern
     ensures { result ≡ pattern.One (cell.Object name.now) }
 {
     Pattern::One(AnyCell::new(Cell::Object(*name)))
 }
 
+// The pattern of an element.
 fn element_pattern(array: &Name, place: &AnyIndex) -> Pattern
     ensures { result ≡ pattern.One (cell.Element array.now place.now) }
 {
@@ -583,6 +584,24 @@ impl EditRecord {
         match element.was.before() {
             None => None,
             Some(was) => Some((element.cell(), was)),
+        }
+    }
+
+    /// The new value of an element that the edit is, if that is all that it is, and it is out of force.
+    pub(crate) fn set_undone(&self) -> Option<SetRecord>
+        ensures { IfSome result (λ e. self.now ≡ record { edit = OneCommand (command.Set e.array e.place e.value); kept = None }) }
+    {
+        let RecordForm::Set(element) = &self.form else {
+            return None;
+        };
+        match element.was.before() {
+            Some(_) => None,
+            None => Some(SetRecord {
+                array: element.array,
+                place: element.place,
+                value: element.value,
+                was: Was::Untold,
+            }),
         }
     }
 

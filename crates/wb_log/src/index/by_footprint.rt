@@ -1,21 +1,23 @@
 //! The first edit in the way of an undo or a redo.
 
-ghost use Rattle.std.specs.Prelude.{◌≡◌, ℕ, ◌+◌, ◌^◌, ◌<◌, length, drop, Some, None, OnOk, OnErr, IfOk};
+ghost use Rattle.std.specs.Prelude.{◌≡◌, ℕ, ◌+◌, ◌^◌, ◌<◌, ◌++◌, Bool, ◌||◌, length, drop, Some, None, OnOk, OnErr, IfOk};
 ghost use Rattle.selective_undo.specs.Log.{blocks_undo, blocks_redo, first_from};
+ghost use Rattle.wb_book.specs.Kept.{element_set};
 ghost use Rattle.wb_cells.specs.declared.cells.cell.Cell.TheVariants as cell;
+ghost use Rattle.wb_cells.specs.Reads.{all_read};
 ghost use Rattle.wb_log.specs.declared.entry.Before.{Before};
 ghost use Rattle.wb_footprints.specs.Footprints.{Footprints, IsIndexOf, footprint, with_footprint};
+ghost use Rattle.wb_footprints.specs.Relation.{IsLeastAfter};
 ghost use Rattle.wb_log.specs.Indexed.{IsByFootprint};
-ghost use Rattle.wb_log.specs.Kept.{by_number, kept_in, kept_all};
+ghost use Rattle.wb_log.specs.Kept.{by_number, kept_in, kept_all, redo_blocker};
 ghost use Rattle.wb_log.specs.Records.{lent_footprint, element_reads, cell_before};
 ghost use Rattle.wb_log.specs.Needed.{AreFromFootprints};
 
 use crate::blockers;
-use crate::entry::{Before, EditRecord, LentFootprint, SetRecord};
+use crate::entry::{Before, EditRecord, LentFootprint, SetRecord, object_pattern};
 use crate::sweep::needing;
 use std::alloc::Global;
-use wb_cells::{Cell, CellChange, Changes};
-use wb_edit::ReadFootprint;
+use wb_cells::{Cell, CellChange, Changes, Pattern, ReadRun, Value};
 use wb_footprints::FootIndex;
 use wb_range::NoMemory;
 
@@ -113,22 +115,48 @@ impl ByFootprint {
         self.index.met_after(target, at as u64 + 1)
     }
 
+    /// The number of the first edit after a place that needs, or is needed by, a new value of an element that is there.
+    pub(crate) fn first_to_block_set(
+        &mut self,
+        entries: &[EditRecord],
+        at: usize,
+        element: &SetRecord,
+    ) -> Option<u64>
+        requires in_log { at < length entries.now }
+        requires few { length entries.now < 2 ^ 63 }
+        requires indexed { IsByFootprint self.old (length entries.now) (by_number entries.now) }
+        ensures first { result ≡ redo_blocker entries.now at (element_reads element.now.array element.now.place)
+            (element_set element.now.array element.now.place element.now.value) }
+        ensures indexed { IsByFootprint self.new (length entries.now) (by_number entries.now) }
+    {
+        self.fill(entries);
+        if self.entered < entries.len() {
+            return first_listed(entries, at, element);
+        }
+        let after = at as u64 + 1;
+        earlier(
+            self.index.met_after(&element.cell(), after),
+            self.index
+                .first_writer(&[object_pattern(&element.array)], &[], after),
+        )
+    }
+
     /// The number of the first edit after a place that needs, or is needed by, one with these reads and changes.
     pub(crate) fn first_to_block_redo(
         &mut self,
         entries: &[EditRecord],
         at: usize,
-        read: &ReadFootprint,
+        reads: &[Pattern],
+        runs: &[ReadRun],
         delta: &Changes,
     ) -> Option<u64>
         requires in_log { at < length entries.now }
         requires few { length entries.now < 2 ^ 63 }
         requires indexed { IsByFootprint self.old (length entries.now) (by_number entries.now) }
-        ensures first { result ≡ first_from (blocks_redo (footprint read.now delta.now)) (at + 2) (drop (at + 1) (kept_all entries.now)) }
+        ensures first { result ≡ first_from (blocks_redo (footprint (reads.now ++ all_read runs.now) delta.now)) (at + 2) (drop (at + 1) (kept_all entries.now)) }
         ensures indexed { IsByFootprint self.new (length entries.now) (by_number entries.now) }
     {
         self.fill(entries);
-        let (reads, runs) = read.parts();
         if self.entered < entries.len() {
             let later = later_than(entries, at);
             return blockers::first_to_block_redo(later, at as u64 + 2, reads, runs, delta);
@@ -194,6 +222,26 @@ impl ByFootprint {
             *self = ByFootprint::new(self.alloc);
         }
     }
+
+    /// The edit at a place, a new value of an element, is in force again. Where no memory is left for it, none has entered.
+    pub(crate) fn set_back_in_force(&mut self, at: usize, element: &SetRecord)
+        requires { at < 2 ^ 63 }
+        ensures { (was : Before) (count : ℕ) (footprints : Footprints) → IsByFootprint self.old count footprints → footprints (at + 1) ≡ None →
+            IsByFootprint self.new count (with_footprint footprints (at + 1) (Some (footprint (element_reads element.now.array element.now.place)
+            (cell_before (cell.Element element.now.array element.now.place) was)))) }
+    {
+        if at >= self.entered {
+            return;
+        }
+        let number = at as u64 + 1;
+        if self
+            .index
+            .add_one(number, &element.reads(), &element.cell())
+            .is_err()
+        {
+            *self = ByFootprint::new(self.alloc);
+        }
+    }
 }
 
 // Adds what is kept of an edit at its number, which has no footprint.
@@ -220,4 +268,29 @@ fn later_than(entries: &[EditRecord], at: usize) -> &[EditRecord]
     ensures { result.now ≡ drop (at + 1) entries.now }
 {
     &entries[at + 1..]
+}
+
+// The number of the first edit after a place that needs, or is needed by, a new value of an element that is there, where the edits
+// are gone through.
+fn first_listed(entries: &[EditRecord], at: usize, element: &SetRecord) -> Option<u64>
+    requires in_log { at < length entries.now }
+    requires few { length entries.now < 2 ^ 63 }
+    ensures { result ≡ redo_blocker entries.now at (element_reads element.now.array element.now.place)
+        (element_set element.now.array element.now.place element.now.value) }
+{
+    let to = Some(Value::Number(element.value));
+    let delta = Changes::one(CellChange::new(element.cell(), to));
+    let later = later_than(entries, at);
+    blockers::first_to_block_redo(later, at as u64 + 2, &element.reads(), &[], &delta)
+}
+
+// The lesser of two numbers, where there are some.
+fn earlier(a: Option<u64>, b: Option<u64>) -> Option<u64>
+    ensures { (p q : ℕ → Bool) (after : ℕ) → IsLeastAfter p after a → IsLeastAfter q after b → IsLeastAfter (λ n. p n || q n) after result }
+{
+    match (a, b) {
+        (Some(i), Some(j)) => Some(if i < j { i } else { j }),
+        (Some(i), None) => Some(i),
+        (None, other) => other,
+    }
 }

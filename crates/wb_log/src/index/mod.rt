@@ -8,6 +8,7 @@ mod in_force;
 ghost use Rattle.std.specs.Prelude.{◌≡◌, ℕ, ◌+◌, ◌^◌, ◌<◌, Some, None};
 ghost use Rattle.wb_cells.specs.declared.cells.cell.Cell.TheVariants as cell;
 ghost use Rattle.wb_footprints.specs.Footprints.{Footprints, footprint, with_footprint};
+ghost use Rattle.wb_log.specs.declared.entry.Before.{Before};
 ghost use Rattle.wb_log.specs.Indexed.{Indexes};
 ghost use Rattle.wb_log.specs.Records.{lent_footprint, element_reads, cell_before};
 
@@ -72,6 +73,17 @@ impl EditIndex {
             Indexes self.new count (with_footprint footprints (at + 1) (Some (lent_footprint kept.now))) }
     {
         self.by_footprint.back_in_force(at, kept);
+        self.in_force.back_in_force(at);
+    }
+
+    /// The edit at a place, a new value of an element that was out of force, is in force again.
+    pub(crate) fn set_back_in_force(&mut self, at: usize, element: &SetRecord)
+        requires { at < 2 ^ 63 }
+        ensures { (was : Before) (count : ℕ) (footprints : Footprints) → Indexes self.old count footprints → footprints (at + 1) ≡ None →
+            Indexes self.new count (with_footprint footprints (at + 1) (Some (footprint (element_reads element.now.array element.now.place)
+            (cell_before (cell.Element element.now.array element.now.place) was)))) }
+    {
+        self.by_footprint.set_back_in_force(at, element);
         self.in_force.back_in_force(at);
     }
 }

@@ -1,4 +1,4 @@
-ghost use Rattle.std.specs.Prelude.{◌≡◌, ℕ, ◌+◌, ◌^◌, ◌<◌, length, [], None, Some, Err, OnOk, OnErr, IfOk, IfErr};
+ghost use Rattle.std.specs.Prelude.{◌≡◌, ℕ, ◌+◌, ◌^◌, ◌<◌, length, [], None, Some, Err, OnOk, OnErr, IfOk, IfErr, IfSome, IfNone};
 ghost use Rattle.selective_undo.specs.Changes.{apply, inverse};
 ghost use Rattle.wb_cells.specs.Cells.{saturating_add, count_of};
 ghost use Rattle.wb_cells.specs.WellFormed.{IsWellFormed};
@@ -14,6 +14,7 @@ use crate::entry::EditRecord;
 use crate::index::EditIndex;
 use crate::log::Log;
 use crate::steps::making::make;
+use crate::steps::straight;
 use std::alloc::Global;
 use wb_arrays::Mover;
 use wb_book::Book;
@@ -83,9 +84,10 @@ fn plan_blocker(
     ensures first { result ≡ redo_blocker entries.now at footprint.now delta.now }
     ensures indexed { IsIndexed index.new entries.now }
 {
+    let (reads, runs) = footprint.parts();
     index
         .by_footprint
-        .first_to_block_redo(entries, at, footprint, delta.changes())
+        .first_to_block_redo(entries, at, reads, runs, delta.changes())
 }
 
 /// The number of the first later edit that a refused plan meets, by what it read alone.
@@ -101,10 +103,11 @@ fn refused_blocker(
     ensures first { result ≡ redo_blocker entries.now at footprint.now [] }
     ensures indexed { IsIndexed index.new entries.now }
 {
+    let (reads, runs) = footprint.parts();
     let none = Changes::new();
     index
         .by_footprint
-        .first_to_block_redo(entries, at, footprint, &none)
+        .first_to_block_redo(entries, at, reads, runs, &none)
 }
 
 /// Why an edit whose plan stopped is not redone.
@@ -175,6 +178,59 @@ fn put_in<M: Mover>(
 impl Log {
     /// Redoes the edit at a place.
     pub fn redo_at<M: Mover>(&mut self, at: usize, mover: &M) -> Result<usize, Refusal>
+        requires { at < length self.old.entries }
+
+        // The answer; the edit is in force in its own place, and the cells that were set are counted.
+        ensures reply { RedoReply (meant self.old.entries) at result }
+        ensures entries { OnOk result (self.new.entries ≡ into_force at self.old.entries) }
+        ensures in_place { OnOk result (RedoesInPlace (meant self.old.entries) at (meant self.new.entries)) }
+        ensures writes { IfOk result (λ n. self.new.writes ≡ saturating_add self.old.writes n) }
+
+        // After a refusal nothing has changed.
+        ensures err { OnErr result (self.new ≡ self.old) }
+    {
+        match self.redo_set(at) {
+            Some(reply) => reply,
+            None => self.redo_planned(at, mover),
+        }
+    }
+
+    // Redoes a new value of an element that is there, with no plan: the reply. Of another edit, and where there is no such element,
+    // nothing is done.
+    fn redo_set(&mut self, at: usize) -> Option<Result<usize, Refusal>>
+        requires { at < length self.old.entries }
+
+        // The answer; the edit is in force in its own place, and the cells that were set are counted.
+        ensures reply { IfSome result (λ r. RedoReply (meant self.old.entries) at r) }
+        ensures entries { IfSome result (λ r. OnOk r (self.new.entries ≡ into_force at self.old.entries)) }
+        ensures in_place { IfSome result (λ r. OnOk r (RedoesInPlace (meant self.old.entries) at (meant self.new.entries))) }
+        ensures writes { IfSome result (λ r. IfOk r (λ n. self.new.writes ≡ saturating_add self.old.writes n)) }
+
+        // After a refusal nothing has changed, nor where there is no answer.
+        ensures err { IfSome result (λ r. OnErr r (self.new ≡ self.old)) }
+        ensures none { IfNone result (self.new ≡ self.old) }
+    {
+        match straight::set_to_redo(&self.book, &self.entries, &mut self.index, at) {
+            None => None,
+            Some(Err(why)) => Some(Err(why)),
+            Some(Ok(element)) => {
+                if straight::set_again(
+                    &mut self.book,
+                    &mut self.entries[at],
+                    &mut self.index,
+                    at,
+                    &element,
+                ) {
+                    Some(Ok(1))
+                } else {
+                    None
+                }
+            }
+        }
+    }
+
+    // Redoes the edit at a place by its plan.
+    fn redo_planned<M: Mover>(&mut self, at: usize, mover: &M) -> Result<usize, Refusal>
         requires { at < length self.old.entries }
 
         // The answer; the edit is in force in its own place, and the cells that were set are counted.

@@ -11,8 +11,8 @@ use Rattle.wb_log.proofs.Granted.{redoes_in_place}
 use Rattle.wb_log.proofs.Redone.{redone_kept, redone_reply, redone_memory, redone_numbers}
 use Rattle.wb_log.proofs.Seen.{place_in}
 use Rattle.wb_log.proofs.Valid.{valid_force, planned_again_well_formed}
-use Rattle.wb_log.proofs.log.Log.redo_at.Goals.{in-Ok-put_in, in-Err-put_in}
-use Rattle.wb_log.proofs.log.Log.redo_at.Goals as goal
+use Rattle.wb_log.proofs.log.Log.redo_planned.Goals.{in-Ok-put_in, in-Err-put_in}
+use Rattle.wb_log.proofs.log.Log.redo_planned.Goals as goal
 
 pub returns-in-Err-clause-reply : goal.returns-in-Err-clause-reply
 returns-in-Err-clause-reply g c =
