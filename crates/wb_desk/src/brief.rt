@@ -102,8 +102,8 @@ pub(crate) fn set_brief(at: &AnyIndex, value: &i64) -> Option<Brief>
     }
 }
 
-// A question for an element.
-fn get_brief(at: &AnyIndex) -> Option<Brief>
+/// A question for an element.
+pub(crate) fn get_brief(at: &AnyIndex) -> Option<Brief>
     ensures { IfSome result (λ b. (a : List ℕ) → request_of a b ≡ asked.Ask (queries.Get a at.now)) }
 {
     match spot_of(at) {

@@ -211,9 +211,9 @@ fn enter_placed(
     enter_whole_again(alloc, seat, at, reply, list, own)
 }
 
-/// Lets a request go. It is in a function of its own, and each caller moves the request on every way, so that only the ways that end
-/// with it make room for letting it go, and not the one that goes on.
-#[inline(always)]
+/// Lets a request go. It is in a function of its own, so that only the ways that end with it look into the request, and the one that
+/// goes on moves it whole.
+#[inline(never)]
 pub(crate) fn let_go(request: Request) {
     let _ = request;
 }
@@ -225,7 +225,9 @@ pub(crate) fn no_memory() -> Reply
     Reply::Refused(Refusal::NoMemory)
 }
 
-// Answers a request of a name whose places are known. Room is there.
+// Answers a request of a name whose places are known. Room is there. (It is a part of each caller, so that the request isn't moved
+// once more.)
+#[inline(always)]
 #[tactic(auto, using(crate::proofs::Replies::unentered_leaves, crate::proofs::Replies::placed_leaves))]
 fn answer_placed<M: Mover>(
     alloc: Global,
@@ -529,7 +531,8 @@ fn answer_change<M: Mover>(
     }
 }
 
-// Answers a request where there is room for its entry, and looks for its name.
+// Answers a request where there is room for its entry, and looks for its name. (It is in a function of its own, so that requests of
+// the latest name make no room for all that it does.)
 #[inline(never)]
 fn answer_sought<M: Mover>(
     alloc: Global,
