@@ -90,8 +90,8 @@ fn set_pair(i: &i64, j: &i64, value: &i64) -> Option<Brief>
     Some(Brief::SetPair(i, j, *value))
 }
 
-// A new value of an element.
-fn set_brief(at: &AnyIndex, value: &i64) -> Option<Brief>
+/// A new value of an element.
+pub(crate) fn set_brief(at: &AnyIndex, value: &i64) -> Option<Brief>
     ensures { IfSome result (λ b. (a : List ℕ) → request_of a b ≡ asked.Change (edits.Command (commands.Set a at.now value.now))) }
 {
     match spot_of(at) {
@@ -102,8 +102,8 @@ fn set_brief(at: &AnyIndex, value: &i64) -> Option<Brief>
     }
 }
 
-// A question for an element.
-fn get_brief(at: &AnyIndex) -> Option<Brief>
+/// A question for an element.
+pub(crate) fn get_brief(at: &AnyIndex) -> Option<Brief>
     ensures { IfSome result (λ b. (a : List ℕ) → request_of a b ≡ asked.Ask (queries.Get a at.now)) }
 {
     match spot_of(at) {

@@ -3,7 +3,9 @@
 ghost use Rattle.std.specs.Prelude.{◌≡◌, ◌&&◌, ◌++◌, ◌∷◌, [], length, true, false, IfOk, IfSome, OnOk, OnErr};
 ghost use Rattle.std.specs.Arc.{arc_value};
 ghost use Rattle.wb_requests.specs.declared.requests.request.Request.TheVariants as asked;
+ghost use Rattle.wb_edit.specs.declared.refusal.Refusal.TheVariants as refusals;
 ghost use Rattle.wb_machine.specs.Machine.{Step};
+ghost use Rattle.wb_machine.specs.declared.replies.reply.Reply.TheVariants as replies;
 ghost use Rattle.wb_desk.specs.declared.brief.Brief.TheVariants as briefs;
 ghost use Rattle.wb_desk.specs.Asked.{is_of_line, plain_request, reply_at, request_at};
 ghost use Rattle.wb_desk.specs.Briefs.{is_new_value, request_of};
@@ -17,13 +19,14 @@ use crate::at_index::{AskedAt, asked_at};
 use crate::brief::{Brief, brief_of, request_of};
 use crate::entry::{Entry, LineReply};
 use crate::form::{Form, form_of, nameless_form};
-use crate::placing::{Placed, both_places, places_of};
+use crate::placing::{Placed, both_places, latest_places, places_of};
 use crate::plain::{Plain, is_of_line, plain_of};
 use crate::register::Register;
 use crate::replying::{answered_question, boxed, is_entered, is_question};
 use std::alloc::Global;
 use std::sync::Arc;
 use wb_arrays::Mover;
+use wb_edit::Refusal;
 use wb_history::History;
 use wb_machine::{Reply, answer_request};
 use wb_range::NoMemory;
@@ -150,6 +153,28 @@ fn enter_whole_again(
     )
 }
 
+// Enters a new value at an integer that was accepted.
+fn enter_set(
+    seat: usize,
+    at: &Placed,
+    i: &i64,
+    value: &i64,
+    number: &u64,
+    count: &usize,
+    list: &mut Register,
+    own: &mut Register,
+)
+    requires placed { IsPlaced seat (request_of at.now.name at.now.brief) list.old own.old at.now }
+    requires brief { at.now.brief ≡ briefs.Set i.now value.now }
+    requires list { IsKept list.old × IsRoomy list.old }
+    requires own { IsKept own.old × IsRoomy own.old }
+    ensures kept { IsKept list.new × IsKept own.new }
+    ensures entered { BothEnter list.old list.new own.old own.new (entry seat (request_of at.now.name at.now.brief) (replies.Edited number.now count.now)) }
+{
+    list.add(Form::Set(at.first, *i, *value, *number, *count));
+    own.add(Form::Set(at.second, *i, *value, *number, *count));
+}
+
 // Enters what was asked of a name, and its reply. Memory may run out where that is no accepted new value.
 fn enter_placed(
     alloc: Global,
@@ -167,6 +192,12 @@ fn enter_placed(
     ensures err { OnErr result (BothStay list.old list.new own.old own.new) }
     ensures full { OnErr result ((is_edited reply.now && is_new_value at.now.brief) ≡ false) }
 {
+    if let Brief::Set(i, value) = &at.brief {
+        if let Reply::Edited(number, count) = reply {
+            enter_set(seat, at, i, value, number, count, list, own);
+            return Ok(());
+        }
+    }
     if let Some(one) = form_of(at.first, &at.brief, reply) {
         if let Some(other) = form_of(at.second, &at.brief, reply) {
             list.add(one);
@@ -180,14 +211,23 @@ fn enter_placed(
     enter_whole_again(alloc, seat, at, reply, list, own)
 }
 
-/// Lets a request go. It is in a function of its own, and each caller moves the request on every way, so that only the ways that end
-/// with it make room for letting it go, and not the one that goes on.
-#[inline(always)]
+/// Lets a request go. It is in a function of its own, so that only the ways that end with it look into the request, and the one that
+/// goes on moves it whole.
+#[inline(never)]
 pub(crate) fn let_go(request: Request) {
     let _ = request;
 }
 
-// Answers a request of a name whose places are known. Room is there.
+/// The reply that there was no memory.
+pub(crate) fn no_memory() -> Reply
+    ensures { result ≡ replies.Refused refusals.NoMemory }
+{
+    Reply::Refused(Refusal::NoMemory)
+}
+
+// Answers a request of a name whose places are known. Room is there. (It is a part of each caller, so that the request isn't moved
+// once more.)
+#[inline(always)]
 #[tactic(auto, using(crate::proofs::Replies::unentered_leaves, crate::proofs::Replies::placed_leaves))]
 fn answer_placed<M: Mover>(
     alloc: Global,
@@ -198,23 +238,22 @@ fn answer_placed<M: Mover>(
     list: &mut Register,
     own: &mut Register,
     mover: &M,
-) -> Result<Reply, NoMemory>
+) -> Reply
     requires placed { IsPlaced seat request list.old own.old at.now }
     requires list { IsKept list.old × IsRoomy list.old }
     requires own { IsKept own.old × IsRoomy own.old }
     ensures kept { IsKept list.new × IsKept own.new }
-    ensures ok { IfOk result (λ r. (is_entered r ≡ true) × Step history.old request r history.new ×
-        BothEnter list.old list.new own.old own.new (entry seat request r)) }
-    ensures err { OnErr result ((history.new ≡ history.old) × BothStay list.old list.new own.old own.new) }
+    ensures entered { is_entered result ≡ true → Step history.old request result history.new × BothEnter list.old list.new own.old own.new (entry seat request result) }
+    ensures stays { is_entered result ≡ false → (result ≡ replies.Refused refusals.NoMemory) × (history.new ≡ history.old) × BothStay list.old list.new own.old own.new }
 {
     let reply = answer_request(alloc, history, request, mover);
     if !is_entered(&reply) {
-        return Err(NoMemory);
+        return no_memory();
     }
-    match enter_placed(alloc, seat, at, &reply, list, own) {
-        Ok(()) => Ok(reply),
-        Err(NoMemory) => Err(NoMemory),
+    if enter_placed(alloc, seat, at, &reply, list, own).is_err() {
+        return no_memory();
     }
+    reply
 }
 
 // Enters a question of no name and its reply.
@@ -446,25 +485,24 @@ fn answer_question<M: Mover>(
     list: &mut Register,
     own: &mut Register,
     mover: &M,
-) -> Result<Reply, NoMemory>
+) -> Reply
     requires question { is_question request ≡ true }
     requires list { IsKept list.old × IsRoomy list.old }
     requires own { IsKept own.old × IsRoomy own.old }
     ensures kept { IsKept list.new × IsKept own.new }
-    ensures ok { IfOk result (λ r. (is_entered r ≡ true) × Step history.old request r history.new ×
-        BothEnter list.old list.new own.old own.new (entry seat request r)) }
-    ensures err { OnErr result ((history.new ≡ history.old) × BothStay list.old list.new own.old own.new) }
+    ensures entered { is_entered result ≡ true → Step history.old request result history.new × BothEnter list.old list.new own.old own.new (entry seat request result) }
+    ensures stays { is_entered result ≡ false → (result ≡ replies.Refused refusals.NoMemory) × (history.new ≡ history.old) × BothStay list.old list.new own.old own.new }
 {
     let Ok(asked) = request.copy(alloc) else {
-        return Err(NoMemory);
+        return no_memory();
     };
     let Ok(reply) = answered_question(alloc, history, request, mover) else {
-        return Err(NoMemory);
+        return no_memory();
     };
-    match enter_question(alloc, seat, asked, &reply, list, own) {
-        Ok(()) => Ok(reply),
-        Err(NoMemory) => Err(NoMemory),
+    if enter_question(alloc, seat, asked, &reply, list, own).is_err() {
+        return no_memory();
     }
+    reply
 }
 
 // Answers any request. Room is there, and memory for both entries is taken first.
@@ -476,21 +514,53 @@ fn answer_change<M: Mover>(
     list: &mut Register,
     own: &mut Register,
     mover: &M,
-) -> Result<Reply, NoMemory>
+) -> Reply
     requires list { IsKept list.old × IsRoomy list.old }
     requires own { IsKept own.old × IsRoomy own.old }
     ensures kept { IsKept list.new × IsKept own.new }
-    ensures ok { IfOk result (λ r. (is_entered r ≡ true) × Step history.old request r history.new ×
-        BothEnter list.old list.new own.old own.new (entry seat request r)) }
-    ensures err { OnErr result ((history.new ≡ history.old) × BothStay list.old list.new own.old own.new) }
+    ensures entered { is_entered result ≡ true → Step history.old request result history.new × BothEnter list.old list.new own.old own.new (entry seat request result) }
+    ensures stays { is_entered result ≡ false → (result ≡ replies.Refused refusals.NoMemory) × (history.new ≡ history.old) × BothStay list.old list.new own.old own.new }
 {
     match boxed(alloc, history, seat, request, mover) {
         Ok((reply, one, other)) => {
             list.add(Form::Alone(one));
             own.add(Form::Alone(other));
-            Ok(reply)
+            reply
         }
-        Err(NoMemory) => Err(NoMemory),
+        Err(NoMemory) => no_memory(),
+    }
+}
+
+// Answers a request where there is room for its entry, and looks for its name. (It is in a function of its own, so that requests of
+// the latest name make no room for all that it does.)
+#[inline(never)]
+fn answer_sought<M: Mover>(
+    alloc: Global,
+    history: &mut History,
+    seat: usize,
+    request: Request,
+    list: &mut Register,
+    own: &mut Register,
+    mover: &M,
+) -> Reply
+    requires list { IsKept list.old × IsRoomy list.old }
+    requires own { IsKept own.old × IsRoomy own.old }
+    ensures kept { IsKept list.new × IsKept own.new }
+    ensures entered { is_entered result ≡ true → Step history.old request result history.new × BothEnter list.old list.new own.old own.new (entry seat request result) }
+    ensures stays { is_entered result ≡ false → (result ≡ replies.Refused refusals.NoMemory) × (history.new ≡ history.old) × BothStay list.old list.new own.old own.new }
+{
+    match places_of(seat, &request, list, own) {
+        Ok(Some(at)) => answer_placed(alloc, history, seat, request, &at, list, own, mover),
+        Ok(None) => {
+            if is_question(&request) {
+                return answer_question(alloc, history, seat, request, list, own, mover);
+            }
+            answer_change(alloc, history, seat, request, list, own, mover)
+        }
+        Err(NoMemory) => {
+            let_go(request);
+            no_memory()
+        }
     }
 }
 
@@ -503,30 +573,21 @@ fn answer_roomy<M: Mover>(
     list: &mut Register,
     own: &mut Register,
     mover: &M,
-) -> Result<Reply, NoMemory>
+) -> Reply
     requires list { IsKept list.old × IsRoomy list.old }
     requires own { IsKept own.old × IsRoomy own.old }
     ensures kept { IsKept list.new × IsKept own.new }
-    ensures ok { IfOk result (λ r. (is_entered r ≡ true) × Step history.old request r history.new ×
-        BothEnter list.old list.new own.old own.new (entry seat request r)) }
-    ensures err { OnErr result ((history.new ≡ history.old) × BothStay list.old list.new own.old own.new) }
+    ensures entered { is_entered result ≡ true → Step history.old request result history.new × BothEnter list.old list.new own.old own.new (entry seat request result) }
+    ensures stays { is_entered result ≡ false → (result ≡ replies.Refused refusals.NoMemory) × (history.new ≡ history.old) × BothStay list.old list.new own.old own.new }
 {
-    match places_of(seat, &request, list, own) {
-        Ok(Some(at)) => answer_placed(alloc, history, seat, request, &at, list, own, mover),
-        Ok(None) => {
-            if is_question(&request) {
-                return answer_question(alloc, history, seat, request, list, own, mover);
-            }
-            answer_change(alloc, history, seat, request, list, own, mover)
-        }
-        Err(NoMemory) => {
-            let_go(request);
-            Err(NoMemory)
-        }
+    if let Some(at) = latest_places(seat, &request, list, own) {
+        return answer_placed(alloc, history, seat, request, &at, list, own, mover);
     }
+    answer_sought(alloc, history, seat, request, list, own, mover)
 }
 
-/// Answers a request of a seat, and enters it with the reply in both lists; or in neither, where no memory is left.
+/// Answers a request of a seat, and enters it with the reply in both lists; or in neither, where no memory is left, which is the
+/// reply then.
 pub(crate) fn answer_in<M: Mover>(
     alloc: Global,
     history: &mut History,
@@ -535,21 +596,20 @@ pub(crate) fn answer_in<M: Mover>(
     list: &mut Register,
     own: &mut Register,
     mover: &M,
-) -> Result<Reply, NoMemory>
+) -> Reply
     requires list { IsKept list.old }
     requires own { IsKept own.old }
     ensures kept { IsKept list.new × IsKept own.new }
-    ensures ok { IfOk result (λ r. (is_entered r ≡ true) × Step history.old request r history.new ×
-        BothEnter list.old list.new own.old own.new (entry seat request r)) }
-    ensures err { OnErr result ((history.new ≡ history.old) × BothStay list.old list.new own.old own.new) }
+    ensures entered { is_entered result ≡ true → Step history.old request result history.new × BothEnter list.old list.new own.old own.new (entry seat request result) }
+    ensures stays { is_entered result ≡ false → (result ≡ replies.Refused refusals.NoMemory) × (history.new ≡ history.old) × BothStay list.old list.new own.old own.new }
 {
     if list.make_room().is_err() {
         let_go(request);
-        return Err(NoMemory);
+        return no_memory();
     }
     if own.make_room().is_err() {
         let_go(request);
-        return Err(NoMemory);
+        return no_memory();
     }
     answer_roomy(alloc, history, seat, request, list, own, mover)
 }

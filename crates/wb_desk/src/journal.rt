@@ -7,9 +7,10 @@ ghost use Rattle.wb_desk.specs.Settling.{FirstDifference, IsSettled, IsCause};
 ghost use Rattle.wb_desk.specs.Serving.{Knows, IsStrange, Enters, entry, own_after, share_after, AnswersCourse};
 ghost use Rattle.wb_desk.specs.Early.{LetsGo};
 
-use crate::entering::let_go;
+use crate::entering::{let_go, no_memory};
 use crate::pass::Pass;
 use crate::records::{Records, answer_at, clear_at, difference_at, no_records};
+use crate::replying::is_entered;
 use crate::settling::{Cause, Difference, first_cause};
 use std::alloc::Global;
 use std::marker::Model;
@@ -121,42 +122,6 @@ impl Journal {
         self.lists[seat].len() == own.len()
     }
 
-    // Answers a pass that is known.
-    fn answer_known<M: Mover>(
-        &mut self,
-        alloc: Global,
-        seat: usize,
-        own: &mut Records,
-        request: Request,
-        mover: &M,
-    ) -> Result<Reply, NoMemory>
-        requires { Knows self.old seat own.old }
-        ensures ok { IfOk result (λ r. (is_entered r ≡ true) × Enters self.old seat request r self.new ×
-            (own.new ≡ own.old ++ entry seat request r ∷ [])) }
-        ensures count { IfOk result (λ r. count_of self.new.entries ≡ count_of self.old.entries + 1) }
-        ensures err { OnErr result ((self.new ≡ self.old) × (own.new ≡ own.old)) }
-    {
-        if self.count == usize::MAX {
-            let_go(request);
-            return Err(NoMemory);
-        }
-        match answer_at(
-            alloc,
-            &mut self.history,
-            seat,
-            request,
-            &mut self.lists,
-            own,
-            mover,
-        ) {
-            Ok(reply) => {
-                self.count += 1;
-                Ok(reply)
-            }
-            Err(NoMemory) => Err(NoMemory),
-        }
-    }
-
     /// Answers a request of a seat, whose own entries these are, and enters the reply in the journal and among them.
     pub(crate) fn answer<M: Mover>(
         &mut self,
@@ -175,10 +140,23 @@ impl Journal {
             let_go(request);
             return Reply::Refused(Refusal::StrangePass);
         }
-        match self.answer_known(alloc, seat, own, request, mover) {
-            Ok(reply) => reply,
-            Err(NoMemory) => Reply::Refused(Refusal::NoMemory),
+        if self.count == usize::MAX {
+            let_go(request);
+            return no_memory();
         }
+        let reply = answer_at(
+            alloc,
+            &mut self.history,
+            seat,
+            request,
+            &mut self.lists,
+            own,
+            mover,
+        );
+        if is_entered(&reply) {
+            self.count += 1;
+        }
+        reply
     }
 
     /// Settles a seat early, whose own entries these are: where they are those that are kept of the seat, both are let go.

@@ -1,8 +1,10 @@
 //! The records of a seat.
 
-ghost use Rattle.std.specs.Prelude.{◌≡◌, ◌<◌, ◌-◌, ◌++◌, ◌∷◌, [], true, length, slice_get, slice_set, IfOk, OnOk, OnErr, MatchOption};
+ghost use Rattle.std.specs.Prelude.{◌≡◌, ◌<◌, ◌-◌, ◌++◌, ◌∷◌, [], true, length, false, slice_get, slice_set, IfOk, OnOk, OnErr, MatchOption};
 ghost use Rattle.std.specs.Bool.{Decides};
+ghost use Rattle.wb_edit.specs.declared.refusal.Refusal.TheVariants as refusals;
 ghost use Rattle.wb_machine.specs.Machine.{Step};
+ghost use Rattle.wb_machine.specs.declared.replies.reply.Reply.TheVariants as replies;
 ghost use Rattle.wb_desk.specs.Courses.{empty_lists, list_of};
 ghost use Rattle.wb_desk.specs.Entries.{is_entered};
 ghost use Rattle.wb_desk.specs.Records.{lent_in};
@@ -116,7 +118,8 @@ pub(crate) fn no_records(alloc: Global, seats: usize) -> Result<Vec<Records>, No
     Ok(lists)
 }
 
-// Answers a request of a seat, and enters it with the reply in two lists; or neither, where no memory is left.
+// Answers a request of a seat, and enters it with the reply in two lists; or neither, where no memory is left, which is the
+// reply then.
 fn answer_into<M: Mover>(
     alloc: Global,
     history: &mut History,
@@ -125,10 +128,10 @@ fn answer_into<M: Mover>(
     list: &mut Records,
     own: &mut Records,
     mover: &M,
-) -> Result<Reply, NoMemory>
-    ensures ok { IfOk result (λ r. (is_entered r ≡ true) × Step history.old request r history.new × (list.new ≡ list.old ++ entry seat request r ∷ []) ×
-        (own.new ≡ own.old ++ entry seat request r ∷ [])) }
-    ensures err { OnErr result ((history.new ≡ history.old) × (list.new ≡ list.old) × (own.new ≡ own.old)) }
+) -> Reply
+    ensures entered { is_entered result ≡ true → Step history.old request result history.new × (list.new ≡ list.old ++ entry seat request result ∷ []) ×
+        (own.new ≡ own.old ++ entry seat request result ∷ []) }
+    ensures stays { is_entered result ≡ false → (result ≡ replies.Refused refusals.NoMemory) × (history.new ≡ history.old) × (list.new ≡ list.old) × (own.new ≡ own.old) }
 {
     answer_in(
         alloc,
@@ -142,7 +145,7 @@ fn answer_into<M: Mover>(
 }
 
 /// Answers a request of a seat, and enters it with the reply in the seat's list and among its own records; or in neither,
-/// where no memory is left.
+/// where no memory is left, which is the reply then.
 pub(crate) fn answer_at<M: Mover>(
     alloc: Global,
     history: &mut History,
@@ -151,12 +154,13 @@ pub(crate) fn answer_at<M: Mover>(
     lists: &mut Vec<Records>,
     own: &mut Records,
     mover: &M,
-) -> Result<Reply, NoMemory>
+) -> Reply
     requires { seat < length lists.old.items }
-    ensures ok { IfOk result (λ r. (is_entered r ≡ true) × Step history.old request r history.new ×
-        (lists.new.items ≡ slice_set lists.old.items seat (list_of lists.old.items seat ++ entry seat request r ∷ [])) ×
-        (own.new ≡ own.old ++ entry seat request r ∷ [])) }
-    ensures err { OnErr result ((history.new ≡ history.old) × (lists.new.items ≡ lists.old.items) × (own.new ≡ own.old)) }
+    ensures entered { is_entered result ≡ true → Step history.old request result history.new ×
+        (lists.new.items ≡ slice_set lists.old.items seat (list_of lists.old.items seat ++ entry seat request result ∷ [])) ×
+        (own.new ≡ own.old ++ entry seat request result ∷ []) }
+    ensures stays { is_entered result ≡ false → (result ≡ replies.Refused refusals.NoMemory) × (history.new ≡ history.old) × (lists.new.items ≡ lists.old.items) ×
+        (own.new ≡ own.old) }
 {
     let list = &mut lists[seat];
     answer_into(alloc, history, seat, request, list, own, mover)

@@ -24,6 +24,8 @@ const NAMES_LOOKED_AT: usize = 256;
 pub(crate) struct Register {
     seat: usize,
     names: Vec<Name>,
+    // Where the latest name stood.
+    latest: u16,
     // Where a name stood last, by a number of the name. It may stand elsewhere now.
     hints: [u16; HINTS],
     forms: Vec<Form>,
@@ -136,6 +138,7 @@ impl Register {
         Register {
             seat,
             names: Vec::new(alloc),
+            latest: 0,
             hints: [0; HINTS],
             forms: Vec::new(alloc),
             indices: Vec::new(alloc),
@@ -204,6 +207,19 @@ impl Register {
         Ok(())
     }
 
+    /// The place of a name of a seat's entry in the table, if it is the latest name, and the list is of the seat.
+    pub(crate) fn latest_place(&self, seat: usize, name: &Name) -> Option<u16>
+        ensures { IfSome result (λ p. (self.now.seat ≡ seat) × IsNamed self.now.names.items p name.now) }
+    {
+        if seat != self.seat {
+            return None;
+        }
+        if is_at(self.names.as_slice(), self.latest, name) {
+            return Some(self.latest);
+        }
+        None
+    }
+
     /// The place of a name of a seat's entry in the table, where it is put if it isn't found; none, where the table is full, or
     /// is of another seat.
     #[tactic(auto, using(crate::proofs::Registers::grown_kept))]
@@ -217,11 +233,15 @@ impl Register {
         if self.seat != seat {
             return Ok(None);
         }
+        if is_at(self.names.as_slice(), self.latest, name) {
+            return Ok(Some(self.latest));
+        }
         let slot = number_of(name.as_bytes()) as usize;
         let hint = self.hints[slot];
         match place_in(&mut self.names, hint, name) {
             Ok(Some(place)) => {
                 self.hints[slot] = place;
+                self.latest = place;
                 Ok(Some(place))
             }
             Ok(None) => Ok(None),
