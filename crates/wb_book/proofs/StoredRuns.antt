@@ -1,24 +1,27 @@
 -- The changes of stored cells, run after run.
-use Rattle.std.proofs.Common.{◌≡◌, ℕ, zero, suc, ◌+◌, ◌<◌, Bool, true, false, ◌||◌, ◌&&◌, not, cond, Option, List, [], ◌∷◌, ◌++◌, length, take, get_or, Some, None, filter, map, refl, sym, ap, subst, ◌∙◌, arith}
+use Rattle.std.proofs.Common.{◌≡◌, ℕ, zero, suc, ◌+◌, ◌<◌, Bool, true, false, ◌||◌, ◌&&◌, not, cond, Option, List, [], ◌∷◌, ◌++◌, length, take, get_or, Some, None, filter, map, add-one, refl, sym, ap, subst, ◌∙◌, arith}
 use Rattle.std.proofs.lemmas.List.{map-append, append-nil}
 use Rattle.std.proofs.lemmas.List.Elements.{filter-append}
 use Rattle.std.proofs.lemmas.List.Folds.{list_any-append}
 use Rattle.std.specs.List.{list_all}
-use Rattle.std.specs.Prelude.{ℤ, is_some}
+use Rattle.std.specs.FinMap.{get}
+use Rattle.std.specs.Prelude.{ℤ, is_some, IsSome, slice_get}
 use Rattle.std.specs.Ordering.{eq_by_cmp}
 use Rattle.selective_undo.specs.declared.Change.{Change}
 use Rattle.selective_undo.specs.Changes.{apply, changes, clears, inverse, sets}
+use Rattle.selective_undo.proofs.AllOrNothing.{sets-cons, set_stays}
 use Rattle.selective_undo.proofs.Changes.{not_true}
 use Rattle.selective_undo.proofs.Locality.{or_neither}
 use Rattle.wb_cells.specs.declared.cells.cell.Cell.{Cell}
 use Rattle.wb_cells.specs.declared.cells.cell.Cell.TheVariants.{Object, Shape, In, Member, Mapping, Use, Implicit, Element}
 use Rattle.wb_cells.specs.declared.cells.value.Value.{Value}
 use Rattle.wb_cells.specs.declared.changes.run.ChangeRun.{ChangeRun}
-use Rattle.wb_cells.specs.Cells.{Cells, Changes, Name, cell_cmp}
+use Rattle.wb_cells.specs.Cells.{Cells, Changes, Name, cell_cmp, cell_order}
 use Rattle.wb_cells.specs.declared.changes.row.IndexedRow.{IndexedRow}
-use Rattle.wb_cells.specs.Runs.{changes_in, all_changes, packed_changes}
+use Rattle.wb_cells.specs.Runs.{changes_in, all_changes, packed_changes, labelled_changes}
 use Rattle.wb_book.specs.Joined.{is_stored, stored_part}
 use Rattle.wb_book.proofs.EachChange.{one_more}
+use Rattle.wb_book.proofs.ElementsSet.{both_true}
 use Rattle.wb_book.proofs.Entries.{run_more}
 use Rattle.wb_book.proofs.EntriesSet.{apply-append}
 use Rattle.wb_book.proofs.SetBack.{sets-append}
@@ -111,10 +114,52 @@ all_absent row [] h = refl
 all_absent row ((p, None) ∷ es) h = all_absent row es h
 all_absent row ((p, Some n) ∷ es) h = cc
 
+pub labels_absent : (row : IndexedRow) (es : List (List ℕ × Option ℤ)) → list_all (λ e. not (is_some e.1)) es ≡ true → sets (labelled_changes row es) ≡ []
+labels_absent row [] h = refl
+labels_absent row ((t, None) ∷ es) h = labels_absent row es h
+labels_absent row ((t, Some n) ∷ es) h = cc
+
 pub all_present : (row : IndexedRow) (es : List (List ℤ × Option ℤ)) → list_all (λ e. is_some e.1) es ≡ true → clears (packed_changes row es) ≡ []
 all_present row [] h = refl
 all_present row ((p, Some n) ∷ es) h = all_present row es h
 all_present row ((p, None) ∷ es) h = cc
+
+pub labels_present : (row : IndexedRow) (es : List (List ℕ × Option ℤ)) → list_all (λ e. is_some e.1) es ≡ true → clears (labelled_changes row es) ≡ []
+labels_present row [] h = refl
+labels_present row ((t, Some n) ∷ es) h = labels_present row es h
+labels_present row ((t, None) ∷ es) h = cc
+
+-- where the number of one more passes a test, those of all up to it do
+pub number_more : (p : Option ℤ → Bool) (es : List (List ℕ × Option ℤ)) (k : ℕ) (n : Option ℤ) → slice_get (map (λ e. e.1) es) k ≡ Some n → p n ≡ true →
+    list_all (λ e. p e.1) (take k es) ≡ true → list_all (λ e. p e.1) (take (k + 1) es) ≡ true
+number_more p es k n at here all = rw (add-one) (up_to es k at all)
+  where
+    up_to : (es : List (List ℕ × Option ℤ)) (k : ℕ) → slice_get (map (λ e. e.1) es) k ≡ Some n →
+        list_all (λ e. p e.1) (take k es) ≡ true → list_all (λ e. p e.1) (take (suc k) es) ≡ true
+    up_to [] k at all = cc
+    up_to (e ∷ es) zero at all =
+        let same : e.1 ≡ n = cc in
+        ap (λ b. b && true) (ap p same ∙ here)
+    up_to (e ∷ es) (suc k) at all =
+        let both = both_true (p e.1) (list_all (λ e. p e.1) (take k es)) all in
+        ap (λ b. b && list_all (λ e. p e.1) (take (suc k) es)) both.0 ∙ up_to es k at both.1
+
+-- changes that clear no cell set each
+pub all_set : (xs : Changes) → clears xs ≡ [] → sets xs ≡ xs
+all_set [] h = refl
+all_set (x ∷ xs) h =
+    elim x.value as (λ v. let y : Change Cell Value = record x { value = v } in clears (y ∷ xs) ≡ [] → sets (y ∷ xs) ≡ y ∷ xs) [
+      | Some v ↦ λ none.
+          let y : Change Cell Value = record x { value = Some v } in
+          ap (λ (zs : Changes). y ∷ zs) (all_set xs none)
+      | None ↦ λ none. cc
+    ] h
+
+-- what is there stays where cells are set
+pub sets_stay : (xs : Changes) (s : Cells) (c : Cell) → IsSome (get s c) → IsSome (get (apply (sets xs) s) c)
+sets_stay [] s c there = there
+sets_stay (x ∷ xs) s c there =
+    subst (λ (t : Cells). IsSome (get t c)) (sym (sets-cons x xs s)) (sets_stay xs (apply (sets (x ∷ [])) s) c (set_stays cell_order x s c there))
 
 -- ---- cells that no change sets
 

@@ -26,7 +26,7 @@ use crate::{after, groups, keep, moving, storing};
 use std::alloc::Global;
 use std::collections::BTreeMap;
 use wb_arrays::{MoveErr, Mover};
-use wb_cells::{AnyIndex, AnyLayout, Cell, CellChange, Changes, Name, StoredCells, Value, store};
+use wb_cells::{AnyIndex, AnyLayout, Cell, CellChange, Changes, Name, StoredCells, Value};
 use wb_elements::Elements;
 use wb_range::NoMemory;
 
@@ -212,7 +212,7 @@ fn take_back(
     cells: &mut StoredCells,
     arrays: &mut BTreeMap<Name, Elements>,
     alone: &[CellChange],
-    before: &[CellChange],
+    before: &Changes,
 )
     requires once { AllOnce cell_cmp before.now }
     requires room { HasRoom before.now (state_of cells.old) }
@@ -223,7 +223,7 @@ fn take_back(
     ensures ascending_cells { IsStrictlySortedBy cell_cmp (keys_of cells.new.entries) }
     ensures ascending { IsStrictlySortedBy (slice_cmp nat_cmp) (keys_of arrays.new.entries) }
 {
-    store::put_back(cells, before);
+    storing::put_back(cells, before);
     drop_gone(cells, arrays, alone);
     // For the proof: the cells ascend.
     cells.ascend();
@@ -289,7 +289,6 @@ fn change_any<V: Mover>(
     let Ok(before) = storing::given_before(alloc, cells, delta) else {
         return Err(MoveErr::NoMemory);
     };
-    let back = before.as_slice();
     let Ok(groups) = groups::group_changes(alloc, cells, arrays, delta) else {
         return Err(MoveErr::NoMemory);
     };
@@ -299,7 +298,7 @@ fn change_any<V: Mover>(
             Ok(())
         }
         Err(why) => {
-            take_back(cells, arrays, alone, back);
+            take_back(cells, arrays, alone, &before);
             Err(why)
         }
     }

@@ -298,7 +298,7 @@ fn add_block<B: ChangeBlock>(
 }
 
 // Adds changes at labels, one by one, to those of the arrays whose elements they set.
-fn add_labels(
+fn add_each_label(
     alloc: Global,
     groups: &mut BTreeMap<Name, Group>,
     labels: &LabelChanges,
@@ -312,6 +312,24 @@ fn add_labels(
         add_change(alloc, groups, &labels.change(at))?;
     }
     Ok(())
+}
+
+// Adds changes at labels to those of the arrays whose elements they set; where the cells are no elements, it adds nothing.
+fn add_labels(
+    alloc: Global,
+    groups: &mut BTreeMap<Name, Group>,
+    labels: &LabelChanges,
+) -> Result<(), NoMemory>
+    requires { list_all is_numeric (labelled_changes labels.now.0 labels.now.1) ≡ true }
+    ensures lead { (before : List (Change cell_type value_type)) → ((b : List ℕ) → LeadTo before b (changes_in groups.old.entries b)) →
+        OnOk result ((b : List ℕ) → LeadTo (before ++ labelled_changes labels.now.0 labels.now.1) b (changes_in groups.new.entries b)) }
+    ensures stays { (b : List ℕ) → IsSome (group_in groups.old.entries b) → IsSome (group_in groups.new.entries b) }
+{
+    match labels.row() {
+        IndexedRow::Inside(_) => Ok(()),
+        IndexedRow::Members(_) => Ok(()),
+        IndexedRow::Elements(_) => add_each_label(alloc, groups, labels),
+    }
 }
 
 // Adds the changes of a run to those of the arrays whose elements they set; each object that changes is named as well.

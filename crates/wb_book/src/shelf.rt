@@ -1,10 +1,12 @@
-ghost use Rattle.std.specs.Prelude.{◌≡◌, IfOk, IfErr, OnOk, OnErr, Err, IfSome, IfNone, IsSome, option_map};
+ghost use Rattle.std.specs.Prelude.{◌≡◌, IfOk, IfErr, OnOk, OnErr, Err, None, IfSome, IfNone, IsSome, option_map};
 ghost use Rattle.selective_undo.specs.Changes.{apply, inverse, AllOnce};
 ghost use Rattle.wb_cells.specs.Cells.{cell_cmp, saturating_add, count_of};
 ghost use Rattle.wb_cells.specs.declared.cells.cell.Cell.TheVariants.{Element};
 ghost use Rattle.wb_cells.specs.declared.cells.value.Value.TheVariants.{Number};
 ghost use Rattle.wb_book.specs.Kept.{element_set};
+ghost use Rattle.wb_cells.specs.MemberRuns.{members_to};
 ghost use Rattle.wb_cells.specs.Readers.{elements, members, seen};
+ghost use Rattle.wb_cells.specs.Runs.{changes_in};
 ghost use Rattle.wb_cells.specs.WellFormed.{IsWellFormed};
 ghost use Rattle.std.specs.FinMap as map;
 
@@ -18,8 +20,8 @@ use std::marker::Model;
 use std::mem;
 use wb_arrays::{MoveErr, Mover};
 use wb_cells::{
-    AnyIndex, Cell, Changes, Delta, Inverse, MemberWalk, Name, Pattern, StoredCells, Value,
-    members_of,
+    AnyIndex, Cell, Changes, Delta, Inverse, MemberWalk, Name, Pattern, RunForm, StoredCells,
+    Value, clearing_run, members_of,
 };
 use wb_elements::Elements;
 use wb_range::NoMemory;
@@ -105,6 +107,16 @@ impl Book {
         // For the proof: the invariant, which speaks of the arrays too.
         let _ = &self.arrays;
         members_of(&self.cells, domain)
+    }
+
+    /// The changes that clear all members of the sparse or associative domain of a name, in their order, as one run; `None`
+    /// where they are to be listed one by one.
+    pub fn clearing_run(&self, alloc: Global, domain: &Name) -> Result<Option<RunForm>, NoMemory>
+        ensures { IfOk result (λ o. IfSome o (λ f. changes_in f ≡ members_to domain.now None (members self.now.cells domain.now))) }
+    {
+        // For the proof: the invariant, which speaks of the arrays too.
+        let _ = &self.arrays;
+        clearing_run(alloc, &self.cells, domain)
     }
 
     /// The elements of the array of a name, each after its index, in the order of the indices; `NoMemory` where none is

@@ -1,9 +1,10 @@
 //! Changes of the stored cells, made run by run. No list is made of them.
 
-ghost use Rattle.std.specs.Prelude.{◌≡◌, ◌||◌, ℕ, List, [], ◌∷◌, ◌++◌, not, true, false, is_some, IfOk, OnOk, IsSome};
+ghost use Rattle.std.specs.Prelude.{◌≡◌, ◌||◌, ℕ, List, [], ◌∷◌, ◌++◌, not, true, false, is_some, IfOk, IfSome, OnOk, IsSome};
 ghost use Rattle.std.specs.FinMap as map;
-ghost use Rattle.std.specs.List.{list_all};
-ghost use Rattle.selective_undo.specs.Changes.{apply, inverse, sets, clears, changes};
+ghost use Rattle.std.specs.List.{All, list_all};
+ghost use Rattle.selective_undo.specs.Changes.{apply, inverse, sets, clears, changes, AllOnce, HasRoom};
+ghost use Rattle.wb_cells.specs.Stored.{FitsChange};
 ghost use Rattle.wb_cells.specs.declared.cells.cell.Cell.{Cell as cell_type};
 ghost use Rattle.wb_cells.specs.Cells.{cell_cmp, state_of};
 ghost use Rattle.wb_cells.specs.Runs.{changes_in, all_changes};
@@ -13,7 +14,10 @@ ghost use Rattle.wb_book.specs.Joined.{stored_part};
 use crate::after::{are_stored, is_of_stored};
 use std::alloc::Global;
 use std::slice;
-use wb_cells::{CellChange, ChangeRun, Changes, RunForm, StoredCells, clear_whole, store};
+use wb_cells::{
+    CellChange, ChangeRun, Changes, LabelChanges, RunForm, StoredCells, clear_whole,
+    members_before, set_whole, store,
+};
 use wb_range::NoMemory;
 
 // ---- runs that set nothing, or clear nothing
@@ -42,6 +46,30 @@ fn are_present<const R: usize>(changes: &[([i64; R], Option<i64>)]) -> bool
     true
 }
 
+// Whether no change at a label gives a number.
+fn are_labels_absent(labels: &LabelChanges) -> bool
+    ensures { result ≡ true → list_all (λ e. not (is_some e.1)) labels.now.1 ≡ true }
+{
+    for at in 0..labels.len() {
+        if labels.number(at).is_some() {
+            return false;
+        }
+    }
+    true
+}
+
+// Whether each change at a label gives a number.
+fn are_labels_present(labels: &LabelChanges) -> bool
+    ensures { result ≡ true → list_all (λ e. is_some e.1) labels.now.1 ≡ true }
+{
+    for at in 0..labels.len() {
+        if labels.number(at).is_none() {
+            return false;
+        }
+    }
+    true
+}
+
 // Whether the changes of a run are known to set no cell: one look at each point.
 fn sets_nothing(form: &RunForm) -> bool
     ensures { result ≡ true → sets (changes_in form.now) ≡ [] }
@@ -51,7 +79,7 @@ fn sets_nothing(form: &RunForm) -> bool
         RunForm::Rank1(packed) => are_absent(packed.changes()),
         RunForm::Rank2(packed) => are_absent(packed.changes()),
         RunForm::Rank3(packed) => are_absent(packed.changes()),
-        RunForm::Labels(_) => false,
+        RunForm::Labels(labels) => are_labels_absent(labels),
         RunForm::Rectangle(_) => false,
         RunForm::Numbers(_) => false,
     }
@@ -66,7 +94,7 @@ fn clears_nothing(form: &RunForm) -> bool
         RunForm::Rank1(packed) => are_present(packed.changes()),
         RunForm::Rank2(packed) => are_present(packed.changes()),
         RunForm::Rank3(packed) => are_present(packed.changes()),
-        RunForm::Labels(_) => false,
+        RunForm::Labels(labels) => are_labels_present(labels),
         RunForm::Rectangle(_) => false,
         RunForm::Numbers(_) => false,
     }
@@ -105,6 +133,9 @@ fn set_each(cells: &mut StoredCells, run: &ChangeRun) -> Result<(), NoMemory>
     ensures set { OnOk result (state_of cells.new ≡ apply (sets (changes_in run.now.form)) (state_of cells.old)) }
 {
     if sets_nothing(run.form()) {
+        return Ok(());
+    }
+    if set_whole(cells, run.form())? {
         return Ok(());
     }
     for at in 0..run.len() {
@@ -212,17 +243,18 @@ pub(crate) fn clear_given(cells: &mut StoredCells, delta: &Changes)
 
 // Adds the change that sets a cell to what it is now, where a change gives it a value.
 fn add_before(
+    alloc: Global,
     cells: &StoredCells,
     change: &CellChange,
-    before: &mut Vec<CellChange>,
+    before: &mut Changes,
 ) -> Result<(), NoMemory>
-    ensures { OnOk result (before.new.items ≡ before.old.items ++ inverse (sets (change.now ∷ [])) (state_of cells.now)) }
+    ensures { OnOk result (before.new ≡ before.old ++ inverse (sets (change.now ∷ [])) (state_of cells.now)) }
 {
     match change.value() {
         Some(_) => {
             let cell = change.cell();
             let value = cells.get(&cell);
-            Ok(before.push(CellChange::new(cell, value))?)
+            before.push(alloc, CellChange::new(cell, value))
         }
         None => Ok(()),
     }
@@ -230,59 +262,94 @@ fn add_before(
 
 // Adds the change that sets a cell to what it is now, where a change gives it a value and it is stored.
 fn add_lone_before(
+    alloc: Global,
     cells: &StoredCells,
     change: &CellChange,
-    before: &mut Vec<CellChange>,
+    before: &mut Changes,
 ) -> Result<(), NoMemory>
-    ensures { OnOk result (before.new.items ≡ before.old.items ++ inverse (sets (stored_part (change.now ∷ []))) (state_of cells.now)) }
+    ensures { OnOk result (before.new ≡ before.old ++ inverse (sets (stored_part (change.now ∷ []))) (state_of cells.now)) }
 {
     if is_of_stored(change) {
-        return add_before(cells, change, before);
+        return add_before(alloc, cells, change, before);
     }
     Ok(())
+}
+
+// The changes that set the cells of a run to what they are now, as a run, where it sets all of them; `None` where they are to be
+// told one by one.
+fn whole_before(
+    alloc: Global,
+    cells: &StoredCells,
+    form: &RunForm,
+) -> Result<Option<RunForm>, NoMemory>
+    ensures { IfOk result (λ o. IfSome o (λ f. changes_in f ≡ inverse (sets (changes_in form.now)) (state_of cells.now))) }
+{
+    if clears_nothing(form) {
+        return members_before(alloc, cells, form);
+    }
+    Ok(None)
 }
 
 // Adds the changes that set the cells to which those of a run give a value to what they are now, one by one.
 fn add_each_before(
+    alloc: Global,
     cells: &StoredCells,
     run: &ChangeRun,
-    before: &mut Vec<CellChange>,
+    before: &mut Changes,
 ) -> Result<(), NoMemory>
-    ensures { OnOk result (before.new.items ≡ before.old.items ++ inverse (sets (changes_in run.now.form)) (state_of cells.now)) }
+    ensures { OnOk result (before.new ≡ before.old ++ inverse (sets (changes_in run.now.form)) (state_of cells.now)) }
 {
-    if sets_nothing(run.form()) {
-        return Ok(());
-    }
     for at in 0..run.len() {
-        add_before(cells, &run.change(at), before)?;
+        add_before(alloc, cells, &run.change(at), before)?;
     }
     Ok(())
 }
 
-// Adds the changes that set the cells to which those of a run give a value to what they are now, if they are stored.
-fn add_run_before(
+// Adds the changes that set the cells to which those of a run give a value to what they are now, as a run where that can be.
+fn add_form_before(
+    alloc: Global,
     cells: &StoredCells,
     run: &ChangeRun,
-    before: &mut Vec<CellChange>,
+    before: &mut Changes,
 ) -> Result<(), NoMemory>
-    ensures { OnOk result (before.new.items ≡ before.old.items ++ inverse (sets (stored_part (changes_in run.now.form))) (state_of cells.now)) }
+    ensures { OnOk result (before.new ≡ before.old ++ inverse (sets (changes_in run.now.form)) (state_of cells.now)) }
+{
+    if sets_nothing(run.form()) {
+        return Ok(());
+    }
+    match whole_before(alloc, cells, run.form()) {
+        Ok(Some(form)) => before.push_run(alloc, form),
+        Ok(None) => add_each_before(alloc, cells, run, before),
+        Err(why) => Err(why),
+    }
+}
+
+// Adds the changes that set the cells to which those of a run give a value to what they are now, if they are stored.
+fn add_run_before(
+    alloc: Global,
+    cells: &StoredCells,
+    run: &ChangeRun,
+    before: &mut Changes,
+) -> Result<(), NoMemory>
+    ensures { OnOk result (before.new ≡ before.old ++ inverse (sets (stored_part (changes_in run.now.form))) (state_of cells.now)) }
 {
     if !are_stored(run.form()) {
         return Ok(());
     }
-    add_each_before(cells, run, before)
+    add_form_before(alloc, cells, run, before)
 }
 
 // Adds the changes that set the cells to which those of runs give a value to what they are now, as far as they are stored.
 fn add_runs_before(
+    alloc: Global,
     cells: &StoredCells,
     runs: &[ChangeRun],
-    before: &mut Vec<CellChange>,
+    before: &mut Changes,
 ) -> Result<(), NoMemory>
-    ensures { OnOk result (before.new.items ≡ before.old.items ++ inverse (sets (stored_part (all_changes runs.now))) (state_of cells.now)) }
+    ensures { OnOk result (before.new ≡ before.old ++ inverse (sets (stored_part (all_changes runs.now))) (state_of cells.now)) }
 {
     for run in runs {
-        add_run_before(cells, run, before)?;
+        add_run_before(alloc, cells, run, before)?;
     }
     Ok(())
 }
@@ -292,18 +359,32 @@ pub(crate) fn given_before(
     alloc: Global,
     cells: &StoredCells,
     delta: &Changes,
-) -> Result<Vec<CellChange>, NoMemory>
-    ensures { IfOk result (λ v. v.items ≡ inverse (sets (stored_part delta.now)) (state_of cells.now)) }
+) -> Result<Changes, NoMemory>
+    ensures { IfOk result (λ v. v ≡ inverse (sets (stored_part delta.now)) (state_of cells.now)) }
 {
-    let mut before = Vec::new(alloc);
+    let mut before = Changes::new();
     let (first, runs) = delta.parts();
     let Some(first) = first else {
-        add_runs_before(cells, runs, &mut before)?;
+        add_runs_before(alloc, cells, runs, &mut before)?;
         return Ok(before);
     };
-    add_lone_before(cells, &first, &mut before)?;
-    add_runs_before(cells, runs, &mut before)?;
+    add_lone_before(alloc, cells, &first, &mut before)?;
+    add_runs_before(alloc, cells, runs, &mut before)?;
     Ok(before)
+}
+
+/// Makes changes for which there is room, which takes no memory.
+pub(crate) fn put_back(cells: &mut StoredCells, before: &Changes)
+    requires once { AllOnce cell_cmp before.now }
+    requires room { HasRoom before.now (state_of cells.old) }
+    requires fits { All FitsChange before.now }
+    ensures { state_of cells.new ≡ apply before.now (state_of cells.old) }
+{
+    let mut near = 0;
+    for at in 0..before.len() {
+        let change = before.change_near(at, &mut near);
+        store::put_back(cells, slice::from_ref(&change));
+    }
 }
 
 // ---- objects

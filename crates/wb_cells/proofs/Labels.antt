@@ -1,5 +1,5 @@
 -- Labels in one list of bytes, and changes at labels.
-use Rattle.std.proofs.Common.{◌≡◌, ℕ, ◌+◌, ◌-◌, ◌≤◌, ℤ, List, [], ◌∷◌, ◌++◌, length, map, take, drop, zero, suc, Option}
+use Rattle.std.proofs.Common.{◌≡◌, ℕ, ◌+◌, ◌≤◌, ℤ, List, [], ◌∷◌, ◌++◌, length, map, take, drop, zero, suc, Option}
 use Rattle.std.proofs.Common.{length-append, length-drop, refl, sym, ap, subst, ◌∙◌, arith}
 use Rattle.std.specs.List.{All}
 use Rattle.std.specs.Prelude.{Bool, true, false, if◌then◌else◌, Result, Ok, Err, is_ok, is_err}
@@ -78,6 +78,10 @@ one_entry_more bytes text es e n kept start len number =
     ∙ ap (λ x. entries_in bytes es ++ x ∷ []) label
 
 -- the labels without their numbers
+pub numbers_alone : (bytes : List ℕ) (es : List LabelEntry) → map (λ e. e.1) (entries_in bytes es) ≡ map number_in es
+numbers_alone bytes [] = refl
+numbers_alone bytes (e ∷ es) = ap (λ ns. number_in e ∷ ns) (numbers_alone bytes es)
+
 pub texts_alone : (bytes : List ℕ) (es : List LabelEntry) → map (λ e. e.0) (entries_in bytes es) ≡ map (label_in bytes) es
 texts_alone bytes [] = refl
 texts_alone bytes (e ∷ es) = ap (λ ts. label_in bytes e ∷ ts) (texts_alone bytes es)

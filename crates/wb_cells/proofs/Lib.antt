@@ -24,4 +24,7 @@ pub mod Lying
 pub mod TwoRanks
 pub mod Counted
 pub mod Rectangles
+pub mod Once
 pub mod MemberRuns
+pub mod SameKeys
+pub mod LabelRuns

@@ -1,17 +1,18 @@
 -- Members of one domain that are set, or cleared, together.
-use Rattle.std.proofs.Common.{◌≡◌, ◌<◌, ◌+◌, ℕ, ℤ, suc, Bool, true, false, cond, ◌&&◌, ◌||◌, List, [], ◌∷◌, ◌++◌, length, map, drop, take, slice_get, Result, Ok, Err, IfOk, IfSome, drop-cons, get_or, add-one, Option, Some, None, unwrap_or, refl, sym, ap, ◌∙◌}
+use Rattle.std.proofs.Common.{◌≡◌, ◌<◌, ◌+◌, ℕ, ℤ, suc, Bool, true, false, cond, ◌&&◌, ◌||◌, List, [], ◌∷◌, ◌++◌, length, map, drop, take, slice_get, Result, Ok, Err, IfOk, IfSome, drop-cons, get_or, add-one, Option, Some, None, is_some, unwrap_or, refl, sym, ap, ◌∙◌}
 use Rattle.std.proofs.lemmas.List.{map-append, take_more}
 use Rattle.std.proofs.lemmas.Option.{slice_get_within, get_or_from_slice_get}
 use Rattle.std.specs.Cmp.{eq_by_cmp_equiv}
 use Rattle.std.specs.Prelude.{option_map}
-use Rattle.std.specs.BTreeMap.{BTreeMap, IsOrdered}
+use Rattle.std.specs.BTreeMap.{BTreeMap}
 use Rattle.std.specs.Cmp.Lexicographic.{slice_cmp}
 use Rattle.std.specs.FinMap.{get}
+use Rattle.std.specs.List.{list_all}
 use Rattle.std.specs.Ordering.{eq_by_cmp, is_eq, nat_cmp, ordering_then}
 use Rattle.std.specs.declared.cmp.Ordering.{Ordering}
 use Rattle.std.specs.declared.cmp.Ordering.TheVariants.{Less, Equal, Greater}
 use Rattle.selective_undo.specs.declared.Change.{Change}
-use Rattle.selective_undo.specs.Changes.{applied, apply, changes, clears}
+use Rattle.selective_undo.specs.Changes.{applied, apply, changes, clears, sets}
 use Rattle.selective_undo.proofs.Changes.{same_states, get-put}
 use Rattle.wb_cells.specs.declared.cells.cell.Cell.{Cell}
 use Rattle.wb_cells.specs.declared.cells.cell.Cell.TheVariants.{Member}
@@ -19,12 +20,11 @@ use Rattle.wb_cells.specs.declared.cells.value.Value.{Value}
 use Rattle.wb_cells.specs.declared.cells.value.Value.TheVariants.{Present}
 use Rattle.wb_cells.specs.declared.values.index.Index.{Index}
 use Rattle.wb_cells.specs.Cells.{Name, Cells, Changes, cell_cmp, cell_order, index_cmp, is_same_name, is_same_index, state_of}
-use Rattle.wb_cells.specs.declared.values.index.Index.TheVariants.{Point, Text}
 use Rattle.wb_cells.specs.declared.changes.row.IndexedRow.TheVariants.{Members}
 use Rattle.wb_cells.specs.contracts.values.index.IndexOrd.TheImpl.Laws as index_laws
-use Rattle.wb_cells.specs.MemberRuns.{members_to, number_if, point_found, label_found}
-use Rattle.wb_cells.specs.Runs.{packed_changes, labelled_changes, value_of}
-use Rattle.wb_cells.specs.Stored.{is_low, is_high, value_in, indices_in, has_index, is_member, AscendEach, whole, stored_of, IsStored}
+use Rattle.wb_cells.specs.MemberRuns.{members_to, number_if, keyed_changes, key_found, member_found}
+use Rattle.wb_cells.specs.Runs.{value_of}
+use Rattle.wb_cells.specs.Stored.{value_in, indices_in, has_index, is_member, whole, stored_of, IsStored}
 use Rattle.wb_cells.specs.WellFormed.{has, present_if}
 use Rattle.wb_cells.proofs.Shown.{get-state_of}
 use Rattle.wb_cells.proofs.Parts.{is_middle, other, not_middle, high_not_middle, by_kind, value-low, value-member, value-high, same_name}
@@ -59,33 +59,64 @@ value_there : (b : Bool) → option_map (value_of (Members [])) (number_if b) �
 value_there true = refl
 value_there false = refl
 
-pub points_told : (sets : List (Name × List Index)) (d : Name) (es : List (List ℤ × Option ℤ)) (answers : Cell → Option Value) →
+pub keys_told : {K : Type 0} (f : K → Index) (sets : List (Name × List Index)) (d : Name) (es : List (K × Option ℤ)) (answers : Cell → Option Value) →
     ((i : Index) → answers (Member d i) ≡ present_if (is_member sets d i)) →
-    packed_changes (Members d) (map (point_found sets d) es) ≡ map (λ x. record { cell = x.cell; value = answers x.cell }) (packed_changes (Members d) es)
-points_told sets d [] answers is = refl
-points_told sets d (e ∷ es) answers is =
-    let i : Index = Point e.0 in
-    rw (points_told sets d es answers is, is i, ← value_there (is_member sets d i)) refl
+    keyed_changes f (Members d) (map (member_found f sets d) es) ≡ map (λ x. record { cell = x.cell; value = answers x.cell }) (keyed_changes f (Members d) es)
+keys_told f sets d [] answers is = refl
+keys_told f sets d (e ∷ es) answers is =
+    let i : Index = f e.0 in
+    rw (keys_told f sets d es answers is, is i, ← value_there (is_member sets d i)) refl
 
-pub labels_told : (sets : List (Name × List Index)) (d : Name) (es : List (List ℕ × Option ℤ)) (answers : Cell → Option Value) →
-    ((i : Index) → answers (Member d i) ≡ present_if (is_member sets d i)) →
-    labelled_changes (Members d) (map (label_found sets d) es) ≡ map (λ x. record { cell = x.cell; value = answers x.cell }) (labelled_changes (Members d) es)
-labels_told sets d [] answers is = refl
-labels_told sets d (e ∷ es) answers is =
-    let i : Index = Text e.0 in
-    rw (labels_told sets d es answers is, is i, ← value_there (is_member sets d i)) refl
+-- the keys of a set, and those of a domain that has them
+pub found_in : {K : Type 0} (f : K → Index) (sets : List (Name × List Index)) (d : Name) (is : List Index) (es : List (K × Option ℤ)) →
+    indices_in sets d ≡ Some is → map (key_found f is) es ≡ map (member_found f sets d) es
+found_in {K} f sets d is es there =
+    ap (λ (o : Option (List Index)). map (λ (e : K × Option ℤ). (e.0, number_if (has_index o (f e.0)))) es) (sym there)
 
-pub label_more : (sets : List (Name × List Index)) (d : Name) (es : List (List ℕ × Option ℤ)) (k : ℕ) (e : List ℕ × Option ℤ) → slice_get es k ≡ Some e →
-    map (label_found sets d) (take (k + 1) es) ≡ map (label_found sets d) (take k es) ++ label_found sets d e ∷ []
-label_more sets d es k e here =
-    ap (map (label_found sets d)) (take_more es k e (slice_get_within es k e here)
-    ∙ ap (λ (x : List ℕ × Option ℤ). take k es ++ x ∷ []) (get_or_from_slice_get es k e e here))
-    ∙ map-append (label_found sets d) (take k es) (e ∷ [])
+pub absent_in : {K : Type 0} (f : K → Index) (sets : List (Name × List Index)) (d : Name) (es : List (K × Option ℤ)) →
+    indices_in sets d ≡ None → map (λ e. (e.0, None)) es ≡ map (member_found f sets d) es
+absent_in {K} f sets d es none =
+    ap (λ (o : Option (List Index)). map (λ (e : K × Option ℤ). (e.0, number_if (has_index o (f e.0)))) es) (sym none)
+
+-- one more of a list, of which g makes an entry each
+pub one_more : {X Y : Type 0} (g : X → Y) (es : List X) (k : ℕ) (e : X) → slice_get es k ≡ Some e → map g (take (k + 1) es) ≡ map g (take k es) ++ g e ∷ []
+one_more {X} g es k e here =
+    ap (map g) (take_more es k e (slice_get_within es k e here) ∙ ap (λ (x : X). take k es ++ x ∷ []) (get_or_from_slice_get es k e e here))
+    ∙ map-append g (take k es) (e ∷ [])
 
 pub if_told : {X E : Type 0} (P Q : X → Type 0) → ((x : X) → P x → Q x) → (r : Result (Option X) E) → IfOk r (λ o. IfSome o P) → IfOk r (λ o. IfSome o Q)
 if_told P Q made (Ok (Some x)) h = made x h
 if_told P Q made (Ok None) h = tt
 if_told P Q made (Err e) h = tt
+
+-- ---- changes by keys that set, or clear, all of them
+
+pub cleared_keys : {K : Type 0} (f : K → Index) (d : Name) (ks : List K) → keyed_changes f (Members d) (map (λ k. (k, None)) ks) ≡ members_to d None (map f ks)
+cleared_keys f d [] = refl
+cleared_keys f d (k ∷ ks) =
+    ap (λ (xs : Changes). (let x : Change Cell Value = record { cell = Member d (f k); value = None } in x ∷ xs)) (cleared_keys f d ks)
+
+set_one : {K : Type 0} (f : K → Index) (d : Name) (k : K) (o : Option ℤ) (xs ys : Changes) → is_some o ≡ true → xs ≡ ys →
+    elim (option_map (value_of (Members d)) o) [ Some v ↦ (let x : Change Cell Value = record { cell = Member d (f k); value = option_map (value_of (Members d)) o } in x ∷ xs) | None ↦ xs ] ≡
+    (let x : Change Cell Value = record { cell = Member d (f k); value = Some Present } in x ∷ ys)
+set_one f d k None xs ys h same = cc
+set_one f d k (Some n) xs ys h same = ap (λ (zs : Changes). (let x : Change Cell Value = record { cell = Member d (f k); value = Some Present } in x ∷ zs)) same
+
+pub set_keys : {K : Type 0} (f : K → Index) (d : Name) (es : List (K × Option ℤ)) → list_all (λ e. is_some e.1) es ≡ true →
+    sets (keyed_changes f (Members d) es) ≡ members_to d (Some Present) (map (λ e. f e.0) es)
+set_keys f d [] all = refl
+set_keys f d (e ∷ es) all = by (is_some e.1) refl all (λ more. set_keys f d es more)
+  where
+    by : (b : Bool) → is_some e.1 ≡ b → b && list_all (λ e. is_some e.1) es ≡ true →
+        (list_all (λ e. is_some e.1) es ≡ true → sets (keyed_changes f (Members d) es) ≡ members_to d (Some Present) (map (λ e. f e.0) es)) →
+        sets (keyed_changes f (Members d) (e ∷ es)) ≡ members_to d (Some Present) (map (λ e. f e.0) (e ∷ es))
+    by true h more rest = set_one f d e.0 e.1 _ _ h (rest more)
+    by false h more rest = cc
+
+-- the indices of keys that stand in entries
+pub keys_of_entries : {K : Type 0} (f : K → Index) (es : List (K × Option ℤ)) → map f (map (λ e. e.0) es) ≡ map (λ e. f e.0) es
+keys_of_entries f [] = refl
+keys_of_entries f (e ∷ es) = ap (λ (is : List Index). f e.0 ∷ is) (keys_of_entries f es)
 
 -- ---- what stands in a cell afterwards
 
@@ -178,3 +209,55 @@ module _ (low : BTreeMap Cell Value) (sets : BTreeMap Name (List Index)) (high :
           ∙ sym (ap (λ b. cond b None (old (Member e j))) (changes-members_to d None is e j)
           ∙ ap (cond (is_same_name e d && has is j) None) (value-member low sets high kept e j)))
           (λ c h. value-high low sets' high kept' c h ∙ sym (value-high low sets high kept c h) ∙ elsewhere c (high_not_middle c h))
+
+  -- the members of the domain d are these afterwards, and those of each other domain what they were
+  pub members_put : (sets' : BTreeMap Name (List Index)) (d : Name) (is : List Index) → IsStored low sets' high → indices_in sets.entries d ≡ None →
+      ((e : Name) → indices_in sets'.entries e ≡ cond (is_same_name e d) (Some is) (indices_in sets.entries e)) →
+      state_of (stored_of low sets' high) ≡ apply (members_to d (Some Present) is) (state_of (stored_of low sets high))
+  members_put sets' d is kept' none put =
+      same_states cell_order _ _ λ c.
+      get-state_of (stored_of low sets' high) c ∙ each c
+      ∙ sym (get-members_to d (Some Present) is (state_of (stored_of low sets high)) c
+      ∙ ap (cond (changes cell_cmp (members_to d (Some Present) is) c) (Some Present)) (get-state_of (stored_of low sets high) c))
+    where
+      old : Cell → Option Value
+      old c = value_in (whole low.entries sets.entries high.entries) c
+
+      elsewhere : (c : Cell) → is_middle c ≡ false → old c ≡ cond (changes cell_cmp (members_to d (Some Present) is) c) (Some Present) (old c)
+      elsewhere c h = sym (ap (λ b. cond b (Some Present) (old c)) (changes_no_other d (Some Present) is c h))
+
+      came : (b : Bool) → present_if b ≡ cond b (Some Present) None
+      came true = refl
+      came false = refl
+
+      at : (e : Name) (j : Index) (b : Bool) → is_same_name e d ≡ b →
+          present_if (has_index (cond b (Some is) (indices_in sets.entries e)) j) ≡ cond (b && has is j) (Some Present) (present_if (is_member sets.entries e j))
+      at e j true same =
+          came (has is j)
+          ∙ ap (λ (o : Option (List Index)). cond (has is j) (Some Present) (present_if (has_index o j)))
+          (sym (ap (indices_in sets.entries) (same_name e d same) ∙ none))
+      at e j false apart = refl
+
+      each : (c : Cell) → value_in (whole low.entries sets'.entries high.entries) c ≡ cond (changes cell_cmp (members_to d (Some Present) is) c) (Some Present) (old c)
+      each = by_kind (λ c. value_in (whole low.entries sets'.entries high.entries) c ≡ cond (changes cell_cmp (members_to d (Some Present) is) c) (Some Present) (old c))
+          (λ c h. value-low low sets' high kept' c h ∙ sym (value-low low sets high kept c h) ∙ elsewhere c (not_middle c h))
+          (λ e j. value-member low sets' high kept' e j ∙ ap (λ (o : Option (List Index)). present_if (has_index o j)) (put e)
+          ∙ at e j (is_same_name e d) refl
+          ∙ sym (ap (λ b. cond b (Some Present) (old (Member e j))) (changes-members_to d (Some Present) is e j)
+          ∙ ap (cond (is_same_name e d && has is j) (Some Present)) (value-member low sets high kept e j)))
+          (λ c h. value-high low sets' high kept' c h ∙ sym (value-high low sets high kept c h) ∙ elsewhere c (high_not_middle c h))
+
+-- ---- the same members, in any order
+
+changes_same : (d : Name) (v : Option Value) (is js : List Index) → ((j : Index) → has is j ≡ has js j) → (c : Cell) →
+    changes cell_cmp (members_to d v is) c ≡ changes cell_cmp (members_to d v js) c
+changes_same d v is js same = by_kind (λ c. changes cell_cmp (members_to d v is) c ≡ changes cell_cmp (members_to d v js) c)
+    (λ c h. changes_no_other d v is c (not_middle c h) ∙ sym (changes_no_other d v js c (not_middle c h)))
+    (λ e j. changes-members_to d v is e j ∙ ap (λ b. is_same_name e d && b) (same j) ∙ sym (changes-members_to d v js e j))
+    (λ c h. changes_no_other d v is c (high_not_middle c h) ∙ sym (changes_no_other d v js c (high_not_middle c h)))
+
+pub members_same : (d : Name) (v : Option Value) (is js : List Index) (s : Cells) → ((j : Index) → has is j ≡ has js j) →
+    apply (members_to d v is) s ≡ apply (members_to d v js) s
+members_same d v is js s same =
+    same_states cell_order _ _ λ c.
+    get-members_to d v is s c ∙ ap (λ b. cond b v (get s c)) (changes_same d v is js same c) ∙ sym (get-members_to d v js s c)

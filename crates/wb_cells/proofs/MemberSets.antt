@@ -21,7 +21,7 @@ equal Less h = cc
 equal Equal h = refl
 equal Greater h = cc
 
-same_index : (i j : Index) → is_same_index i j ≡ true → i ≡ j
+pub same_index : (i j : Index) → is_same_index i j ≡ true → i ≡ j
 same_index i j h = index_cmp-IsAntisymmetric i j (equal (index_cmp i j) h)
 
 -- an index of another form is none of them

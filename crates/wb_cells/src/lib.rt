@@ -10,7 +10,7 @@ mod values;
 
 pub use crate::book::families::{members_in, members_of, seen};
 pub use crate::book::locales::locale_at;
-pub use crate::book::member_runs::{clear_whole, members_before};
+pub use crate::book::member_runs::{clear_whole, clearing_run, members_before, set_whole};
 pub use crate::book::member_walk::MemberWalk;
 pub use crate::book::readers::{index_at, object_at, object_count, object_of, size_at, user_at};
 pub use crate::book::store;

@@ -10,6 +10,7 @@ pub mod Becoming
 pub mod SideBySide
 pub mod Layouts
 pub mod Exchanges
+pub mod Emptied
 pub mod Fills
 pub mod Memberships
 pub mod Sets

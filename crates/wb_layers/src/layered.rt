@@ -1,10 +1,12 @@
-ghost use Rattle.std.specs.Prelude.{◌≡◌, [], map, slice_get, IfOk, IfSome};
+ghost use Rattle.std.specs.Prelude.{◌≡◌, [], map, slice_get, None, IfOk, IfSome};
 ghost use Rattle.std.specs.FinMap.{get};
 ghost use Rattle.std.specs.Map.{keys_of};
 ghost use Rattle.selective_undo.specs.Changes.{apply};
 ghost use Rattle.selective_undo.specs.Together.{together};
 ghost use Rattle.wb_cells.specs.Cells.{cell_cmp};
+ghost use Rattle.wb_cells.specs.MemberRuns.{members_to};
 ghost use Rattle.wb_cells.specs.Readers.{seen, members, elements, objects};
+ghost use Rattle.wb_cells.specs.Runs.{changes_in};
 ghost use Rattle.wb_cells.specs.Shapes.{indices};
 ghost use Rattle.wb_cells.specs.WellFormed.{IsWellFormed};
 
@@ -13,7 +15,7 @@ use crate::looks;
 use std::alloc::Global;
 use std::marker::Model;
 use wb_book::Book;
-use wb_cells::{AnyIndex, AnyRect, Cell, Delta, Name, Pattern, Value, members_in};
+use wb_cells::{AnyIndex, AnyRect, Cell, Delta, Name, Pattern, RunForm, Value, members_in};
 use wb_range::NoMemory;
 
 /// A workbook with changes laid over it: it looks as the workbook would after them, which stays as it is. Contracts see the
@@ -98,6 +100,17 @@ impl<'a> Layered<'a> {
             Ok(found) => Ok(found),
             Err(_) => Err(NoMemory),
         }
+    }
+
+    /// The changes that clear all members of the sparse or associative domain of a name, in their order, as one run; `None`
+    /// where they are to be listed one by one, as where changes are laid over members of the domain.
+    pub fn clearing_run(&self, alloc: Global, domain: &Name) -> Result<Option<RunForm>, NoMemory>
+        ensures { IfOk result (λ o. IfSome o (λ f. changes_in f ≡ members_to domain.now None (members self.now.cells domain.now))) }
+    {
+        if self.layer.touches(&Pattern::Members(*domain)) {
+            return Ok(None);
+        }
+        self.book.clearing_run(alloc, domain)
     }
 
     /// The elements of the array of a name, each after its index, in the order of the indices; `NoMemory` where none is

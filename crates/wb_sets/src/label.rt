@@ -72,8 +72,16 @@ impl Label {
         }
     }
 
-    // The bytes of the text.
-    pub(crate) fn as_bytes(&self) -> &[u8]
+    /// The label with these bytes.
+    pub fn of_bytes(bytes: &[u8]) -> Label
+        requires { IsLabel bytes.now }
+        ensures { result ≡ bytes.now }
+    {
+        packed(bytes)
+    }
+
+    /// The bytes of the text.
+    pub fn as_bytes(&self) -> &[u8]
         ensures value { result.now ≡ self.now }
         ensures label { IsLabel self.now }
     {

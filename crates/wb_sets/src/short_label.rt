@@ -49,11 +49,19 @@ impl ShortLabel {
         ensures value { IfSome result (λ k. k ≡ label.now) }
         ensures short { is_some result ≡ nat_le (length label.now) 23 }
     {
-        let source = label.as_bytes();
-        if source.len() > MAX_BYTES {
+        ShortLabel::of_bytes(label.as_bytes())
+    }
+
+    /// The short label with these bytes, or `None` exactly where they are more than 23.
+    pub fn of_bytes(bytes: &[u8]) -> Option<ShortLabel>
+        requires { IsLabel bytes.now }
+        ensures value { IfSome result (λ k. k ≡ bytes.now) }
+        ensures short { is_some result ≡ nat_le (length bytes.now) 23 }
+    {
+        if bytes.len() > MAX_BYTES {
             return None;
         }
-        Some(short(source))
+        Some(short(bytes))
     }
 
     /// The label with the same bytes.
@@ -63,10 +71,11 @@ impl ShortLabel {
         packed(self.as_bytes())
     }
 
-    // The bytes of the text.
-    fn as_bytes(&self) -> &[u8]
+    /// The bytes of the text.
+    pub fn as_bytes(&self) -> &[u8]
         ensures value { result.now ≡ self.now }
         ensures label { IsLabel self.now }
+        ensures few { length self.now ≤ 23 }
     {
         &self.bytes[..self.len as usize]
     }

@@ -313,6 +313,22 @@ fn form_with(alloc: Global, form: &MemberForm, index: &AnyIndex) -> Result<Membe
 }
 
 impl MemberSet {
+    /// The set of these indices.
+    pub(crate) fn of_form(form: MemberForm) -> MemberSet
+        requires { IsKept form }
+        ensures { result ≡ listed form }
+    {
+        MemberSet { form }
+    }
+
+    /// The indices by their form.
+    pub(crate) fn form(&self) -> &MemberForm
+        ensures listed { listed result.now ≡ self.now }
+        ensures kept { IsKept result.now }
+    {
+        &self.form
+    }
+
     /// The set of one index.
     pub(crate) fn of(alloc: Global, index: &AnyIndex) -> Result<MemberSet, NoMemory>
         ensures { IfOk result (λ s. s ≡ index.now ∷ []) }

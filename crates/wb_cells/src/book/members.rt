@@ -1,6 +1,6 @@
 //! The members of sparse and associative domains, in a set for each domain.
 
-ghost use Rattle.std.specs.Prelude.{◌≡◌, ◌||◌, ◌&&◌, not, cond, List, ℕ, [], true, false, None, Some, length, slice_get, unwrap_or, IfOk, OnOk, OnErr};
+ghost use Rattle.std.specs.Prelude.{◌≡◌, ◌||◌, ◌&&◌, not, cond, List, ℕ, [], true, false, None, Some, length, slice_get, unwrap_or, Ok, IfOk, OnOk, OnErr};
 ghost use Rattle.std.specs.BTreeMap.{IsOrdered};
 ghost use Rattle.std.specs.Cmp.Lexicographic.{slice_cmp};
 ghost use Rattle.std.specs.Ordering.{nat_cmp};
@@ -110,6 +110,32 @@ pub(crate) fn drop_members(sets: &mut BTreeMap<Name, MemberSet>, domain: &Name)
     ensures each { AscendEach sets.new.entries }
 {
     sets.remove(domain);
+}
+
+/// Makes these indices the members of a domain, where none are kept of it; says whether none were.
+pub(crate) fn put_set(
+    sets: &mut BTreeMap<Name, MemberSet>,
+    domain: &Name,
+    set: MemberSet,
+) -> Result<bool, NoMemory>
+    requires { AscendEach sets.old.entries }
+    ensures put { result ≡ Ok true → (d : List ℕ) → indices_in sets.new.entries d ≡ cond (is_same_name d domain.now) (Some set) (indices_in sets.old.entries d) }
+    ensures none { result ≡ Ok true → indices_in sets.old.entries domain.now ≡ None }
+    ensures left { result ≡ Ok false → sets.new.entries ≡ sets.old.entries }
+    ensures err { OnErr result (sets.new.entries ≡ sets.old.entries) }
+    ensures ordered { IsOrdered (slice_cmp nat_cmp) sets.new }
+    ensures each { AscendEach sets.new.entries }
+{
+    // For the proof: the names ascend, and so do the indices.
+    let _names = sets.len();
+    let _count = set.count();
+    if sets.contains_key(domain) {
+        return Ok(false);
+    }
+    match sets.insert(*domain, set) {
+        Ok(_) => Ok(true),
+        Err(_) => Err(NoMemory),
+    }
 }
 
 /// How many members a domain has.

@@ -1,6 +1,6 @@
 //! The stored cells of a workbook, with the members of its domains in sets of indices.
 
-ghost use Rattle.std.specs.Prelude.{◌≡◌, ◌++◌, ◌&&◌, ◌||◌, ℕ, List, [], false, is_some, cond, Some, None, IfOk, OnOk, OnErr};
+ghost use Rattle.std.specs.Prelude.{◌≡◌, ◌++◌, ◌&&◌, ◌||◌, ℕ, List, [], true, false, is_some, cond, Some, None, Ok, IfOk, OnOk, OnErr};
 ghost use Rattle.std.specs.Cmp.Lexicographic.{slice_cmp};
 ghost use Rattle.std.specs.List.{flat_map};
 ghost use Rattle.std.specs.BTreeMap.{IsOrdered, is_at};
@@ -19,7 +19,7 @@ ghost use Rattle.wb_cells.specs.MemberRuns.{members_to};
 ghost use Rattle.selective_undo.specs.Changes.{apply, clears};
 
 use crate::book::member_set::MemberSet;
-use crate::book::members::{drop_members, is_member, put_member, take_member};
+use crate::book::members::{drop_members, is_member, put_member, put_set, take_member};
 use crate::cells::cell::Cell;
 use crate::cells::value::Value;
 use crate::values::index::AnyIndex;
@@ -245,6 +245,21 @@ impl StoredCells {
         ensures { state_of self.new ≡ apply (clears (members_to domain.now None (members (state_of self.old) domain.now))) (state_of self.old) }
     {
         drop_members(&mut self.members, domain);
+    }
+
+    /// Whether members of a domain are kept.
+    pub(crate) fn has_members(&self, domain: &Name) -> bool {
+        self.members.contains_key(domain)
+    }
+
+    /// Makes these indices the members of a domain, where none are kept of it; says whether none were. Else, and where memory
+    /// ran out, it changes nothing.
+    pub(crate) fn put_members(&mut self, domain: &Name, set: MemberSet) -> Result<bool, NoMemory>
+        ensures put { result ≡ Ok true → state_of self.new ≡ apply (members_to domain.now (Some Present) set) (state_of self.old) }
+        ensures left { result ≡ Ok false → state_of self.new ≡ state_of self.old }
+        ensures err { OnErr result (state_of self.new ≡ state_of self.old) }
+    {
+        put_set(&mut self.members, domain, set)
     }
 
     /// Computes nothing. Callers learn that the cells ascend.

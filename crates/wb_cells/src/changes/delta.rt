@@ -1,7 +1,8 @@
-ghost use Rattle.std.specs.Prelude.{◌≡◌, List, [], ◌∷◌, ◌++◌, false, OnOk, OnErr};
+ghost use Rattle.std.specs.Prelude.{◌≡◌, List, [], ◌∷◌, ◌++◌, true, false, OnOk, OnErr};
 ghost use Rattle.selective_undo.specs.Changes.{changes, AllOnce};
 ghost use Rattle.wb_cells.specs.Cells.{cell_cmp, count_of};
-ghost use Rattle.wb_cells.specs.Runs.{cell_of, indexed_change, packed_changes, rectangle_entries, numbered_entries};
+ghost use Rattle.wb_cells.specs.Runs.{cell_of, changes_in, indexed_change, packed_changes, rectangle_entries, numbered_entries};
+ghost use Rattle.wb_cells.specs.declared.cells.cell.Cell.{Cell as cell_type};
 ghost use Rattle.wb_cells.specs.declared.values.index.Index.{Index};
 
 use crate::cells::cell::Cell;
@@ -103,6 +104,16 @@ impl Delta {
         let _once = ranges.size();
         let made = RectangleNumbers::new(*row, *ranges, numbers);
         self.changes.push_run(self.alloc, RunForm::Numbers(made))
+    }
+
+    /// Adds the changes of a run, each of a cell that is not there yet and each cell once.
+    pub fn put_run(&mut self, run: RunForm) -> Result<(), NoMemory>
+        requires once { AllOnce cell_cmp (changes_in run) }
+        requires new { (c : cell_type) → changes cell_cmp (changes_in run) c ≡ true → changes cell_cmp self.old c ≡ false }
+        ensures ok { OnOk result (self.new ≡ self.old ++ changes_in run) }
+        ensures err { OnErr result (self.new ≡ self.old) }
+    {
+        self.changes.push_run(self.alloc, run)
     }
 
     /// How many cells change; the cells `In`, which follow from the shapes, are not counted.

@@ -19,7 +19,6 @@ use crate::changes::row::IndexedRow;
 use crate::values::index::{AnyIndex, Index};
 use std::alloc::Global;
 use std::marker::Model;
-use std::str::from_utf8;
 use wb_range::NoMemory;
 use wb_sets::Label;
 
@@ -103,20 +102,6 @@ fn part(bytes: &[u8], start: usize, len: usize) -> &[u8]
     &bytes[start..start + len]
 }
 
-// The label with these bytes.
-fn label_of(bytes: &[u8]) -> Label
-    requires { IsLabel bytes.now }
-    ensures { result ≡ bytes.now }
-{
-    let Ok(text) = from_utf8(bytes) else {
-        unreachable!();
-    };
-    match Label::new(text) {
-        Ok(label) => label,
-        Err(_) => unreachable!(),
-    }
-}
-
 // The bytes of the label at a place.
 fn text_at<'a>(bytes: &'a [u8], entries: &[LabelEntry], at: usize) -> &'a [u8]
     requires kept { All (IsKept bytes.now) entries.now }
@@ -128,6 +113,15 @@ fn text_at<'a>(bytes: &'a [u8], entries: &[LabelEntry], at: usize) -> &'a [u8]
     part(bytes, entry.start as usize, entry.len as usize)
 }
 
+// The number at a place, or none.
+fn number_at(entries: &[LabelEntry], at: usize) -> Option<i64>
+    requires { at < length entries.now }
+    ensures { slice_get (map number_in entries.now) at ≡ Some result }
+{
+    let entry = entries[at];
+    number_in(&entry)
+}
+
 // The label at a place, with its number, or none.
 fn entry_at(bytes: &[u8], entries: &[LabelEntry], at: usize) -> (Label, Option<i64>)
     requires kept { All (IsKept bytes.now) entries.now }
@@ -136,7 +130,7 @@ fn entry_at(bytes: &[u8], entries: &[LabelEntry], at: usize) -> (Label, Option<i
 {
     let entry = entries[at];
     let text = part(bytes, entry.start as usize, entry.len as usize);
-    (label_of(text), number_in(&entry))
+    (Label::of_bytes(text), number_in(&entry))
 }
 
 // The label that an index is, if it is one.
@@ -188,7 +182,16 @@ impl LabelChanges {
         ensures other { result ≡ Ok false → self.new ≡ self.old }
         ensures err { OnErr result (self.new ≡ self.old) }
     {
-        let text = label.as_str().as_bytes();
+        self.push_text(label.as_bytes(), number)
+    }
+
+    // Adds the label with these bytes with its number, or none, behind the others, if the bytes have a place.
+    pub(crate) fn push_text(&mut self, text: &[u8], number: Option<i64>) -> Result<bool, NoMemory>
+        requires { IsLabel text.now }
+        ensures added { result ≡ Ok true → self.new ≡ (self.old.0, self.old.1 ++ (text.now, number) ∷ []) }
+        ensures other { result ≡ Ok false → self.new ≡ self.old }
+        ensures err { OnErr result (self.new ≡ self.old) }
+    {
         let Some(entry) = entry_of(self.bytes.len(), text, number) else {
             return Ok(false);
         };
@@ -223,6 +226,14 @@ impl LabelChanges {
         ensures label { IsLabel result.now }
     {
         text_at(self.bytes.as_slice(), self.entries.as_slice(), at)
+    }
+
+    /// The number at a place, or none.
+    pub fn number(&self, at: usize) -> Option<i64>
+        requires { at < length self.now.1 }
+        ensures { slice_get (map (λ e. e.1) self.now.1) at ≡ Some result }
+    {
+        number_at(self.entries.as_slice(), at)
     }
 
     /// How many changes there are.

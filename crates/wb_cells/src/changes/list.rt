@@ -174,6 +174,22 @@ impl Changes {
             }
         }
     }
+
+    /// The change at a place. `near` is a run to look at first, and becomes the run of the place.
+    pub fn change_near(&self, at: usize, near: &mut usize) -> CellChange
+        requires { at < length self.now }
+        ensures { result ≡ get_or self.now at result }
+    {
+        match &self.first {
+            None => change_behind(&self.runs, 0, at, near),
+            Some(first) => {
+                if at == 0 {
+                    return *first;
+                }
+                change_behind(&self.runs, 1, at, near)
+            }
+        }
+    }
 }
 
 // Adds a change of a cell that has an index to the last run, if there is one and the change may be packed with it.
@@ -241,6 +257,39 @@ fn cell_in(runs: &[ChangeRun], before: usize, at: usize, near: &mut usize) -> Ce
     *near = number;
     let run = &runs[number];
     run.cell(at - run.start)
+}
+
+// The change at a place of the list, of which so many stand before the runs. `near` is a run to look at first, and becomes the run
+// of the place.
+fn change_behind(
+    runs: &Option<Vec<ChangeRun>>,
+    before: usize,
+    at: usize,
+    near: &mut usize,
+) -> CellChange
+    requires started { AreStarted before (runs_in runs.now) }
+    requires behind { before ≤ at }
+    requires within { at < before + length (all_changes (runs_in runs.now)) }
+    ensures { result ≡ get_or (all_changes (runs_in runs.now)) (at - before) result }
+{
+    match runs {
+        None => unreachable!(),
+        Some(runs) => change_in(runs.as_slice(), before, at, near),
+    }
+}
+
+// The change at a place of the list, looked for in the runs, before which so many changes stand. `near` is a run to look at first,
+// and becomes the run of the place.
+fn change_in(runs: &[ChangeRun], before: usize, at: usize, near: &mut usize) -> CellChange
+    requires started { AreStarted before runs.now }
+    requires behind { before ≤ at }
+    requires within { at < before + length (all_changes runs.now) }
+    ensures { result ≡ get_or (all_changes runs.now) (at - before) result }
+{
+    let number = run_of(runs, before, at, *near);
+    *near = number;
+    let run = &runs[number];
+    run.change(at - run.start)
 }
 
 // The number of the run that has a place of the list, of which so many stand before the runs. It is looked for from a run on,

@@ -1,13 +1,15 @@
 //! Changes in the making.
 
-ghost use Rattle.std.specs.Prelude.{◌≡◌, ℕ, List, [], ◌∷◌, ◌++◌, false, map, slice_get, Some, option_map, OnOk, IfErr};
+ghost use Rattle.std.specs.Prelude.{◌≡◌, ℕ, List, [], ◌∷◌, ◌++◌, true, false, map, slice_get, None, Some, option_map, OnOk, IfErr};
 ghost use Rattle.std.specs.Map.{keys_of};
-ghost use Rattle.selective_undo.specs.Changes.{changes};
+ghost use Rattle.selective_undo.specs.Changes.{changes, AllOnce};
 ghost use Rattle.wb_cells.specs.Cells.{cell_cmp};
-ghost use Rattle.wb_cells.specs.Runs.{cell_of, value_of, indexed_change};
+ghost use Rattle.wb_cells.specs.Readers.{members};
+ghost use Rattle.wb_cells.specs.Runs.{cell_of, value_of, changes_in, indexed_change};
 ghost use Rattle.wb_cells.specs.Shapes.{indices};
 ghost use Rattle.wb_cells.specs.WellFormed.{index_cell};
-ghost use Rattle.wb_cells.specs.declared.cells.cell.Cell.TheVariants.{Element};
+ghost use Rattle.wb_cells.specs.declared.cells.cell.Cell.{Cell as cell_type};
+ghost use Rattle.wb_cells.specs.declared.cells.cell.Cell.TheVariants.{Element, Member};
 ghost use Rattle.wb_cells.specs.declared.cells.value.Value.TheVariants.{Number};
 ghost use Rattle.wb_cells.specs.declared.values.index.Index.{Index};
 ghost use Rattle.wb_range.specs.Domain.{IsListedOnce};
@@ -18,8 +20,12 @@ ghost use Rattle.wb_reshape.specs.Resized.{exchanged, elements_exchanged, resize
 ghost use Rattle.wb_edit.specs.declared.attempt_err.AttemptErr.TheVariants.{NoMemory};
 
 use crate::attempt_err::AttemptErr;
-use crate::looks::indices::Indices;
-use wb_cells::{AnyIndex, AnyRect, Cell, Delta, IndexedChange, IndexedRow, Kind, Name, Value};
+use crate::looks::indices::{Indices, listed_members};
+use std::alloc::Global;
+use wb_cells::{
+    AnyIndex, AnyRect, Cell, Delta, IndexedChange, IndexedRow, Kind, Name, RunForm, Value,
+};
+use wb_layers::Layered;
 
 /// Adds that a cell, which is not there yet, becomes a value, or absent.
 pub(crate) fn change(delta: &mut Delta, cell: Cell, value: Option<Value>) -> Result<(), AttemptErr>
@@ -195,6 +201,54 @@ fn become_listed(
         }
     }
     Ok(())
+}
+
+// Adds the changes of a run, each of a cell that is not there yet and each cell once.
+fn add_run(delta: &mut Delta, form: RunForm) -> Result<(), AttemptErr>
+    requires once { AllOnce cell_cmp (changes_in form) }
+    requires new { (c : cell_type) → changes cell_cmp (changes_in form) c ≡ true → changes cell_cmp delta.old c ≡ false }
+    ensures ok { OnOk result (delta.new ≡ delta.old ++ changes_in form) }
+    ensures only { IfErr result (λ e. e ≡ NoMemory) }
+{
+    match delta.put_run(form) {
+        Ok(()) => Ok(()),
+        Err(_) => Err(AttemptErr::NoMemory),
+    }
+}
+
+// Adds that the cells of all members of a domain, none of which is there yet, become absent, one by one.
+fn clear_each_member(
+    alloc: Global,
+    book: &Layered<'_>,
+    delta: &mut Delta,
+    domain: Name,
+) -> Result<(), AttemptErr>
+    requires { (i : Index) → changes cell_cmp delta.old (Member domain i) ≡ false }
+    ensures ok { OnOk result (delta.new ≡ delta.old ++ set_all (map (Member domain) (members book.now.cells domain)) None) }
+    ensures only { IfErr result (λ e. e ≡ NoMemory) }
+{
+    match listed_members(alloc, book, domain) {
+        Ok(listed) => become_listed(delta, &IndexedRow::Members(domain), &listed, &None),
+        Err(_) => Err(AttemptErr::NoMemory),
+    }
+}
+
+/// Adds that the cells of all members of a domain, none of which is there yet, become absent: as one run, where there is one.
+pub(crate) fn clear_members(
+    alloc: Global,
+    book: &Layered<'_>,
+    delta: &mut Delta,
+    domain: Name,
+) -> Result<(), AttemptErr>
+    requires { (i : Index) → changes cell_cmp delta.old (Member domain i) ≡ false }
+    ensures ok { OnOk result (delta.new ≡ delta.old ++ set_all (map (Member domain) (members book.now.cells domain)) None) }
+    ensures only { IfErr result (λ e. e ≡ NoMemory) }
+{
+    match book.clearing_run(alloc, &domain) {
+        Ok(Some(form)) => add_run(delta, form),
+        Ok(None) => clear_each_member(alloc, book, delta, domain),
+        Err(_) => Err(AttemptErr::NoMemory),
+    }
 }
 
 /// Adds that the cell of each of some indices, each of them once and none there yet, gets a value.

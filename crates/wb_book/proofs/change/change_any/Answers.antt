@@ -77,17 +77,17 @@ pub take_back-requires-clause-once : goal.take_back-requires-clause-once
 take_back-requires-clause-once g c =
     let xs : Changes = stored_part c.args.delta.now in
     let once : AllOnce cell_cmp xs = once_stored c.args.delta.now c.requires.once in
-    subst (λ (ys : Changes). AllOnce cell_cmp ys) (sym (c.as_slice-back.ensures.value ∙ c.in-Ok-given_before.ensures))
+    subst (λ (ys : Changes). AllOnce cell_cmp ys) (sym c.in-Ok-given_before.ensures)
     (once-inverse (sets xs) (state_of c.args.cells.now) (once_set xs once))
 
 pub take_back-requires-clause-room : goal.take_back-requires-clause-room
 take_back-requires-clause-room g c =
-    rw (c.as_slice-back.ensures.value, c.in-Ok-given_before.ensures)
+    rw (c.in-Ok-given_before.ensures)
     (room-inverse (sets (stored_part c.args.delta.now)) (state_of c.args.cells.now) (state_of c.prepare.new.cells) c.prepare.ensures.stays_cells)
 
 pub take_back-requires-clause-fits : goal.take_back-requires-clause-fits
 take_back-requires-clause-fits g c =
-    subst (λ (ys : Changes). All FitsChange ys) (sym (c.as_slice-back.ensures.value ∙ c.in-Ok-given_before.ensures))
+    subst (λ (ys : Changes). All FitsChange ys) (sym c.in-Ok-given_before.ensures)
     (values_fit c.args.cells.now c.args.arrays.now c.requires.shelf (sets (stored_part c.args.delta.now)))
 
 pub returns-clause-err : goal.returns-clause-err
@@ -96,7 +96,7 @@ returns-clause-err g c =
     λ b. ap (λ (ys : Changes). changes cell_cmp ys (Object b)) c.as_slice-alone.ensures.value ∙ c.in-Ok.ensures b in
     let xs : Changes = stored_part c.args.delta.now in
     let back : state_of c.take_back.new.cells ≡ state_of c.args.cells.now =
-    c.take_back.ensures.cells ∙ ap (λ (ys : Changes). apply ys (state_of c.prepare.new.cells)) (c.as_slice-back.ensures.value ∙ c.in-Ok-given_before.ensures)
+    c.take_back.ensures.cells ∙ ap (λ (ys : Changes). apply ys (state_of c.prepare.new.cells)) c.in-Ok-given_before.ensures
     ∙ off_cells cell_order (sets xs) (state_of c.args.cells.now) (state_of c.prepare.new.cells) c.prepare.ensures.others_cells in
     (taken_back c.args.cells.now c.args.arrays.now c.args.delta.now c.requires.shelf xs refl
     c.take_back.new.cells c.prepare.new.arrays.entries c.take_back.new.arrays.entries back (λ b e. c.prepare.ensures.others b (named b ∙ e)) c.prepare.ensures.stays
@@ -110,7 +110,7 @@ returns-clause-shelf g c =
     λ b. ap (λ (ys : Changes). changes cell_cmp ys (Object b)) c.as_slice-alone.ensures.value ∙ c.in-Ok.ensures b in
     let xs : Changes = stored_part c.args.delta.now in
     let back : state_of c.take_back.new.cells ≡ state_of c.args.cells.now =
-    c.take_back.ensures.cells ∙ ap (λ (ys : Changes). apply ys (state_of c.prepare.new.cells)) (c.as_slice-back.ensures.value ∙ c.in-Ok-given_before.ensures)
+    c.take_back.ensures.cells ∙ ap (λ (ys : Changes). apply ys (state_of c.prepare.new.cells)) c.in-Ok-given_before.ensures
     ∙ off_cells cell_order (sets xs) (state_of c.args.cells.now) (state_of c.prepare.new.cells) c.prepare.ensures.others_cells in
     (taken_back c.args.cells.now c.args.arrays.now c.args.delta.now c.requires.shelf xs refl
     c.take_back.new.cells c.prepare.new.arrays.entries c.take_back.new.arrays.entries back (λ b e. c.prepare.ensures.others b (named b ∙ e)) c.prepare.ensures.stays

@@ -5,4 +5,4 @@ use Rattle.wb_cells.specs.Runs.{changes_in}
 use Rattle.wb_book.proofs.storing.add_each_before.Given as goal
 
 abbrev pub invariant-loop-at : goal.invariant-loop-at
-invariant-loop-at l = l.before.items ≡ l.fn.before.items ++ inverse (sets (take l.at (changes_in l.run.form))) (state_of l.cells)
+invariant-loop-at l = l.before ≡ l.fn.before ++ inverse (sets (take l.at (changes_in l.run.form))) (state_of l.cells)

@@ -15,5 +15,5 @@ loop-run-preserved c =
     let here : Changes = inverse (sets (stored_part (changes_in r.form))) s in
     c.in_ok-add_run_before.ensures
     ∙ ap (λ (ys : Changes). ys ++ here) c.loop-run.invariant
-    ∙ append_assoc c.args.before.now.items (inverse (sets (stored_part (all_changes (take k rs)))) s) here
-    ∙ ap (λ (ys : Changes). c.args.before.now.items ++ ys) (sym (before_run_more rs k r s c.loop-run-test.true c.run-item.is))
+    ∙ append_assoc c.args.before.now (inverse (sets (stored_part (all_changes (take k rs)))) s) here
+    ∙ ap (λ (ys : Changes). c.args.before.now ++ ys) (sym (before_run_more rs k r s c.loop-run-test.true c.run-item.is))

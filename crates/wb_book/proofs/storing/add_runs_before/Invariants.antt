@@ -6,4 +6,4 @@ use Rattle.wb_book.specs.Joined.{stored_part}
 use Rattle.wb_book.proofs.storing.add_runs_before.Given as goal
 
 abbrev pub invariant-loop-run : goal.invariant-loop-run
-invariant-loop-run l = l.before.items ≡ l.fn.before.items ++ inverse (sets (stored_part (all_changes (take l.run-index l.runs)))) (state_of l.cells)
+invariant-loop-run l = l.before ≡ l.fn.before ++ inverse (sets (stored_part (all_changes (take l.run-index l.runs)))) (state_of l.cells)

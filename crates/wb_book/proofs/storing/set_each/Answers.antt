@@ -1,9 +1,11 @@
-use Rattle.std.proofs.Common.{◌<◌, length, sym, ap, ◌∙◌, arith}
+use Rattle.std.proofs.Common.{◌≡◌, ◌<◌, IsSome, length, sym, ap, subst, ◌∙◌, arith, rules, tests}
+use Rattle.std.specs.FinMap.{get}
 use Rattle.selective_undo.specs.Changes.{apply, sets}
-use Rattle.wb_cells.specs.Cells.{Changes, state_of}
+use Rattle.selective_undo.proofs.Changes.{apply_keeps}
+use Rattle.wb_cells.specs.Cells.{Cells, Changes, cell_order, state_of}
 use Rattle.wb_cells.specs.Runs.{changes_in}
 use Rattle.wb_book.proofs.SetBack.{other_set}
-use Rattle.wb_book.proofs.StoredRuns.{set_one_more}
+use Rattle.wb_book.proofs.StoredRuns.{set_one_more, sets_stay}
 use Rattle.wb_book.proofs.storing.set_each.Goals as goal
 
 pub loop-at-preserved : goal.loop-at-preserved
@@ -30,3 +32,17 @@ pub returns-then-sets_nothing-clause-set : goal.returns-then-sets_nothing-clause
 returns-then-sets_nothing-clause-set c =
     ap (λ (ys : Changes). apply ys (state_of c.args.cells.now))
     (sym (ap (λ f. sets (changes_in f)) (sym c.form.ensures) ∙ c.sets_nothing.ensures c.if-sets_nothing.true))
+
+pub returns-then-branch-clause-others : goal.returns-then-branch-clause-others
+returns-then-branch-clause-others c = λ q e.
+    let xs = changes_in c.args.run.now.form in
+    let old = state_of c.args.cells.now in
+    let made : state_of c.set_whole.new.cells ≡ apply (sets xs) old = search (rules, tests) in
+    ap (λ (t : Cells). get t q) made ∙ apply_keeps cell_order (sets xs) old q e
+
+pub returns-then-branch-clause-stays : goal.returns-then-branch-clause-stays
+returns-then-branch-clause-stays c = λ q there.
+    let xs = changes_in c.args.run.now.form in
+    let old = state_of c.args.cells.now in
+    let made : state_of c.set_whole.new.cells ≡ apply (sets xs) old = search (rules, tests) in
+    subst (λ (t : Cells). IsSome (get t q)) (sym made) (sets_stay xs old q there)

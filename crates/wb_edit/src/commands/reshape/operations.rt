@@ -3,11 +3,12 @@
 //! What leaves and what comes is found by looking up each given index, so that a union, a difference or a symmetric difference
 //! with a few indices takes no time that grows with the domain. An intersection lists the indices of the domain.
 
-ghost use Rattle.std.specs.Prelude.{◌≡◌, [], IfOk};
+ghost use Rattle.std.specs.Prelude.{◌≡◌, List, [], true, IfOk};
 ghost use Rattle.std.specs.List.Sorted.{IsStrictlySortedBy};
 ghost use Rattle.wb_cells.specs.Cells.{index_cmp};
 ghost use Rattle.wb_cells.specs.Readers.{members};
 ghost use Rattle.wb_cells.specs.WellFormed.{has};
+ghost use Rattle.wb_cells.specs.declared.values.index.Index.{Index};
 ghost use Rattle.wb_cells.specs.declared.cells.kind.DomainKind.TheVariants.{Associative};
 ghost use Rattle.wb_reshape.specs.Resized.{without};
 ghost use Rattle.wb_reshape.specs.Sources.{among, combined};
@@ -15,7 +16,7 @@ ghost use Rattle.wb_edit.specs.Commands.Reshape.{with_indices, combine_set};
 ghost use Rattle.wb_edit.specs.Plans.{Attempts};
 
 use crate::attempt_err::AttemptErr;
-use crate::commands::resized::plan_exchanged;
+use crate::commands::resized::{plan_emptied, plan_exchanged};
 use crate::footprint::FootprintBuilder;
 use crate::looks::indices::{listed_members, look_at_members};
 use crate::looks::sources::{gives_set, indices_given};
@@ -130,6 +131,18 @@ fn exchange_by(
     }
 }
 
+// Whether it is known that the operation makes nothing of any indices and the given ones.
+fn leaves_nothing(how: SetOperation, given: &[AnyIndex]) -> bool
+    ensures { result ≡ true → (old : List Index) → combined how given.now old ≡ [] }
+{
+    match how {
+        SetOperation::Union => false,
+        SetOperation::Intersection => given.is_empty(),
+        SetOperation::Difference => false,
+        SetOperation::SymmetricDifference => false,
+    }
+}
+
 // The domain gets what the operation makes of its indices and the given ones, which ascend.
 fn plan_combined(
     alloc: Global,
@@ -144,10 +157,13 @@ fn plan_combined(
     ensures { Attempts (with_indices domain (Associative key) (members book.now.cells domain) (combined how given.now (members book.now.cells domain)))
         book.now.cells footprint.old result footprint.new }
 {
+    let kind = AnyDomain::new(DomainKind::Associative(key));
+    if leaves_nothing(how, given) {
+        return plan_emptied(alloc, book, footprint, domain, &kind);
+    }
     let Ok(exchange) = exchange_by(alloc, book, domain, how, given) else {
         return Err(AttemptErr::NoMemory);
     };
-    let kind = AnyDomain::new(DomainKind::Associative(key));
     plan_exchanged(
         alloc,
         book,

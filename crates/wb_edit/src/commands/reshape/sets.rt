@@ -2,15 +2,16 @@
 
 ghost use Rattle.wb_range.specs.Domain.{IsListedOnce};
 ghost use Rattle.wb_cells.specs.declared.cells.kind.DomainKind.TheVariants.{Associative};
+ghost use Rattle.wb_cells.specs.Readers.{members};
 ghost use Rattle.wb_edit.specs.Plans.{Attempts};
 ghost use Rattle.wb_edit.specs.Commands.Reshape.{with_indices, to_set, reshape_sparse, reshape_associative};
 
 use crate::attempt_err::AttemptErr;
 use crate::commands::reshape::no_source::plan_no_source;
 use crate::commands::reshape::operations::plan_combine;
-use crate::commands::resized::plan_resized;
+use crate::commands::resized::{plan_emptied, plan_resized};
 use crate::footprint::FootprintBuilder;
-use crate::looks::indices::members;
+use crate::looks::indices::{listed_members, look_at_members};
 use crate::looks::sources::{gives_set, indices_given};
 use std::alloc::Global;
 use wb_cells::{AnyDomain, AnyIndex, Delta, DomainKind, KeyType, Name, WhyRefused};
@@ -41,6 +42,27 @@ fn plan_with_indices(
     plan_resized(alloc, book, footprint, domain, kind, new, &leaving, &coming)
 }
 
+// A sparse or associative domain gets other indices.
+fn plan_replaced(
+    alloc: Global,
+    book: &Layered<'_>,
+    footprint: &mut FootprintBuilder,
+    domain: Name,
+    kind: &AnyDomain,
+    new: &[AnyIndex],
+) -> Result<Delta, AttemptErr>
+    requires { IsListedOnce new.now }
+    ensures { Attempts (with_indices domain kind.now (members book.now.cells domain) new.now) book.now.cells footprint.old result footprint.new }
+{
+    if new.is_empty() {
+        return plan_emptied(alloc, book, footprint, domain, kind);
+    }
+    let Ok(old) = listed_members(alloc, book, domain) else {
+        return Err(AttemptErr::NoMemory);
+    };
+    plan_with_indices(alloc, book, footprint, domain, kind, &old, new)
+}
+
 // What is given takes the place of the indices.
 fn plan_to(
     alloc: Global,
@@ -53,9 +75,9 @@ fn plan_to(
     ensures { Attempts (to_set domain kind.now given.now) book.now.cells footprint.old result footprint.new }
 {
     gives_set(book, footprint, kind.kind(), given)?;
-    let old = members(alloc, book, footprint, domain)?;
+    look_at_members(footprint, domain)?;
     let new = indices_given(alloc, book, footprint, given)?;
-    plan_with_indices(alloc, book, footprint, domain, kind, &old, &new)
+    plan_replaced(alloc, book, footprint, domain, kind, &new)
 }
 
 /// A new value of a sparse domain.

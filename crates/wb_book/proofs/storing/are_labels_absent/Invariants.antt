@@ -1,0 +1,6 @@
+use Rattle.std.proofs.Common.{◌≡◌, true, not, is_some, take}
+use Rattle.std.specs.List.{list_all}
+use Rattle.wb_book.proofs.storing.are_labels_absent.Given as goal
+
+abbrev pub invariant-loop-at : goal.invariant-loop-at
+invariant-loop-at l = list_all (λ e. not (is_some e.1)) (take l.at l.labels.1) ≡ true
