@@ -30,10 +30,6 @@ module _ {K V : Type 0} {order : K → K → Ordering} where
   sets-cons x xs s = elim x.value as (λ v. let y : Change K V = record x { value = v } in apply (sets (y ∷ xs)) s ≡ apply (sets xs) (apply (sets (y ∷ [])) s))
       [ Some v ↦ refl | None ↦ refl ]
 
-  pub clears-cons : (x : Change K V) (xs : List (Change K V)) (s : FinMap order V) → apply (clears (x ∷ xs)) s ≡ apply (clears xs) (apply (clears (x ∷ [])) s)
-  clears-cons x xs s = elim x.value as (λ v. let y : Change K V = record x { value = v } in
-      apply (clears (y ∷ xs)) s ≡ apply (clears xs) (apply (clears (y ∷ [])) s)) [ Some v ↦ refl | None ↦ refl ]
-
   pub once-inverse : (xs : List (Change K V)) (s : FinMap order V) → AllOnce order xs → AllOnce order (inverse xs s)
   once-inverse [] s once = tt
   once-inverse (x ∷ xs) s once = (changes-inverse xs s x.cell ∙ once.0, once-inverse xs s once.1)
@@ -136,10 +132,6 @@ module _ {K V : Type 0} {order : K → K → Ordering} (ordered : IsOrder order)
       let once' : AllOnce order (get_or xs i d ∷ drop (suc i) xs) = rw (drop-cons xs i d low) at once in
       let room' : HasRoom (get_or xs i d ∷ drop (suc i) xs) s = rw (drop-cons xs i d low) at room in
       rw (add-one, is) (room-put (get_or xs i d) (drop (suc i) xs) s once'.0 room'.1)
-
-  pub room_here : (xs : List (Change K V)) (i : ℕ) (d : Change K V) (s : FinMap order V) → i < length xs → HasRoom (drop i xs) s →
-      RoomFor (get_or xs i d).value (get s (get_or xs i d).cell)
-  room_here xs i d s low room = let room' : HasRoom (get_or xs i d ∷ drop (suc i) xs) s = rw (drop-cons xs i d low) at room in room'.0
 
 -- ---- laws
 

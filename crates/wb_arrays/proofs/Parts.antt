@@ -1,12 +1,11 @@
 -- Pairs go to their pieces one after another.
-use Rattle.std.proofs.Common.{◌≡◌, ◌≢◌, ℕ, zero, suc, ◌+◌, ◌<◌, ℤ, Bool, true, false, cond, eqb, List, [], ◌∷◌, ◌++◌, map, length, replicate, get_or, set, inl}
+use Rattle.std.proofs.Common.{◌≡◌, ◌≢◌, ℕ, zero, suc, ◌+◌, ◌<◌, ℤ, Bool, true, false, cond, eqb, List, [], ◌∷◌, ◌++◌, map, length, get_or, set, inl}
 use Rattle.std.proofs.Common.{inr, ◌⊎◌, refl, sym, ap, ◌∙◌, arith, eq-eqb, add-zero}
 use Rattle.std.specs.declared.vec.Vec.{Vec}
 use Rattle.std.specs.List.{range_with_len}
 use Rattle.std.proofs.lemmas.Bool.{true≢false, cases_eq}
 use Rattle.std.proofs.lemmas.Bool.Decides.{nat_tests}
-use Rattle.std.proofs.lemmas.List.{map-append, map-set, get_or-map, length-map, length-set, length-replicate, get_or-replicate, get_or-set_same}
-use Rattle.std.proofs.lemmas.List.{get_or-set_other, replicate_more, append_assoc, append-nil}
+use Rattle.std.proofs.lemmas.List.{map-set, get_or-map, length-map, length-set, get_or-set_same, get_or-set_other, append_assoc, append-nil}
 use Rattle.wb_arrays.specs.Pieces.{piece_of, pieces_from, lists_of, LieBelow}
 
 module _ {I Z : Type 0} where
@@ -31,25 +30,12 @@ module _ {I Z : Type 0} where
   pub length-lists_of : (vs : List (Vec (I × ℤ) Z)) → length (lists_of vs) ≡ length vs
   length-lists_of vs = length-map vs (λ (x : Vec (I × ℤ) Z). x.items)
 
-  pub pushed_empty : (vs : List (Vec (I × ℤ) Z)) (v : Vec (I × ℤ) Z) (n : ℕ) → v.items ≡ [] → lists_of vs ≡ replicate n [] →
-      lists_of (vs ++ v ∷ []) ≡ replicate (n + 1) []
-  pushed_empty vs v n none h =
-      let items = λ (x : Vec (I × ℤ) Z). x.items in
-      map-append items vs (v ∷ []) ∙ rw (h, none) (replicate_more n [])
-
 module _ {I : Type 0} (locale : I → ℕ) (n first count : ℕ) (whole : List (I × ℤ)) where
   -- the pieces have what was passed of the array, and what is left goes behind it
   pub record IsUnderway (rest : List (I × ℤ)) (ps : List (List (I × ℤ))) : Type 0 where
     pub len : length ps ≡ count
     pub so_far : (k : ℕ) → k < count → get_or ps k [] ++ piece_of locale rest (first + k) ≡ piece_of locale whole (first + k)
     pub below : LieBelow locale n rest → LieBelow locale n whole
-
-  pub start : IsUnderway whole (replicate count [])
-  start = record {
-    len = length-replicate count [];
-    so_far = λ k l. ap (λ xs. xs ++ piece_of locale whole (first + k)) (get_or-replicate count k [] [] l);
-    below = λ h. h;
-  }
 
   pub pass : (e : I × ℤ) (rest : List (I × ℤ)) (ps : List (List (I × ℤ))) → locale e.0 < n → ((k : ℕ) → k < count → first + k ≡ locale e.0 → ⊥) →
       IsUnderway (e ∷ rest) ps → IsUnderway rest ps

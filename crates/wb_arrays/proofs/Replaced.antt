@@ -1,5 +1,5 @@
 -- All numbers of an array are replaced, where one locale has it.
-use Rattle.std.proofs.Common.{◌≡◌, ℕ, zero, suc, ◌+◌, ◌<◌, ◌≤◌, ℤ, List, [], ◌∷◌, ◌++◌, map, length, take, drop, get_or, set, add-one, refl}
+use Rattle.std.proofs.Common.{◌≡◌, ℕ, zero, suc, ◌+◌, ◌<◌, ℤ, List, [], ◌∷◌, ◌++◌, map, length, take, drop, get_or, set, add-one, refl}
 use Rattle.std.proofs.Common.{sym, ap, subst, ◌∙◌, arith}
 use Rattle.std.specs.declared.cmp.Ordering.{Ordering}
 use Rattle.std.specs.declared.vec.Vec.{Vec}
@@ -36,12 +36,6 @@ module _ {I : Type 0} where
       map (λ e. (e.0, n)) (take (k + 1) es) ++ drop (k + 1) es
   fill_more es n k d low = rw add-one (fill_next es n k d low)
 
-  pub fill_all : (es : List (I × ℤ)) (n : ℤ) (k : ℕ) → length es ≤ k → map (λ e. (e.0, n)) (take k es) ++ drop k es ≡ map (λ e. (e.0, n)) es
-  fill_all [] n zero high = refl
-  fill_all [] n (suc k) high = refl
-  fill_all (e ∷ es) n zero high = absurd (omega (arith, high))
-  fill_all (e ∷ es) n (suc k) high = ap (λ xs. (e.0, n) ∷ xs) (fill_all es n k (omega (arith, high)))
-
   -- one number more of those that are replaced by others
   set_next : (es : List (I × ℤ)) (ns : List ℤ) (k : ℕ) (d : I × ℤ) (n : ℤ) → k < length es → length es ≡ length ns → n ≡ get_or ns k n →
       set (zip (keys_of (take k es)) (take k ns) ++ drop k es) k ((get_or (zip (keys_of (take k es)) (take k ns) ++ drop k es) k d).0, n) ≡
@@ -56,15 +50,6 @@ module _ {I : Type 0} where
       set (zip (keys_of (take k es)) (take k ns) ++ drop k es) k ((get_or (zip (keys_of (take k es)) (take k ns) ++ drop k es) k d).0, n) ≡
       zip (keys_of (take (k + 1) es)) (take (k + 1) ns) ++ drop (k + 1) es
   set_more es ns k d n low same is = rw add-one (set_next es ns k d n low same is)
-
-  pub set_all : (es : List (I × ℤ)) (ns : List ℤ) (k : ℕ) → length es ≤ k → length es ≡ length ns →
-      zip (keys_of (take k es)) (take k ns) ++ drop k es ≡ zip (keys_of es) ns
-  set_all [] [] zero high same = refl
-  set_all [] [] (suc k) high same = refl
-  set_all [] (m ∷ ns) k high same = absurd (omega (arith, same))
-  set_all (e ∷ es) [] k high same = absurd (omega (arith, same))
-  set_all (e ∷ es) (m ∷ ns) zero high same = absurd (omega (arith, high))
-  set_all (e ∷ es) (m ∷ ns) (suc k) high same = ap (λ xs. (e.0, m) ∷ xs) (set_all es ns k (omega (arith, high)) (omega (arith, same)))
 
   below-keys : (locale : I → ℕ) (n : ℕ) (es fs : List (I × ℤ)) → keys_of fs ≡ keys_of es → LieBelow locale n es → LieBelow locale n fs
   below-keys locale n [] [] same below = tt

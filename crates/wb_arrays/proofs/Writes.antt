@@ -79,9 +79,6 @@ module _ {I : Type 0} (cmp : I → I → Ordering) (exact : IsAntisymmetric cmp)
         add-zero-left : (k : ℕ) → 0 + k ≡ k
         add-zero-left k = omega arith
 
-        piece : ℕ → List (I × ℤ)
-        piece = piece_of locale es
-
         late : (a m : ℕ) → locale q < a → map (piece_of locale (set_value (is_at (cmp q)) es v)) (range_with_len a m) ≡ map (piece_of locale es)
             (range_with_len a m)
         late a zero h = refl

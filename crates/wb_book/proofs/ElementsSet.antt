@@ -68,17 +68,6 @@ not_changed element (x ∷ xs) c st set =
 
 -- ---- one element is set
 
-pub only_element : (element : Name → Index → Option ℤ) (c : Cell) (v : Option Value) → ((a : Name) (i : Index) → c ≡ Element a i → ⊥) →
-    sets_at element c v ≡ true → ⊥
-only_element element (Element a i) v none set = none a i refl
-only_element element (Object n) v none set = cc
-only_element element (Shape n) v none set = cc
-only_element element (In n i) v none set = cc
-only_element element (Member n i) v none set = cc
-only_element element (Mapping n) v none set = cc
-only_element element (Use n m) v none set = cc
-only_element element (Implicit n) v none set = cc
-
 -- a change of an element sets it to a number, and it is there
 pub element_set : (element : Name → Index → Option ℤ) (x : Change Cell Value) (a : Name) (i : Index) → x.cell ≡ Element a i → is_set element x ≡ true →
     (is_some (number_in x.value) ≡ true) × IsSome (element a i)

@@ -71,9 +71,6 @@ module _ (es fs : List (Name × Pieced)) (n : Name) (p : Pieced) (absent : array
   none_of : (b : Name) → is_same_name n b ≡ true → array_in es b ≡ None
   none_of b e = ap (array_in es) (sym (one_name n b e)) ∙ absent
 
-  pub put_others : (b : Name) → is_same_name n b ≡ false → array_in fs b ≡ array_in es b
-  put_others b other = put b ∙ rw other refl
-
   pub put_stays : (b : Name) (q : Pieced) → array_in es b ≡ Some q → array_in fs b ≡ Some q
   put_stays b q found = put b ∙ by (is_same_name n b) refl
     where

@@ -33,9 +33,6 @@ once_set (x ∷ xs) once =
 pub one_set : (x : Change Cell Value) (v : Value) → x.value ≡ Some v → sets (x ∷ []) ≡ x ∷ []
 one_set x v is = ap (λ (o : Option Value). elim o as (λ _. Changes) [ Some w ↦ x ∷ [] | None ↦ [] ]) is
 
-pub one_unset : (x : Change Cell Value) → x.value ≡ None → sets (x ∷ []) ≡ []
-one_unset x is = ap (λ (o : Option Value). elim o as (λ _. Changes) [ Some w ↦ x ∷ [] | None ↦ [] ]) is
-
 pub one_before : (x y : Change Cell Value) (v : Value) (c : Cell) (o : Option Value) (s : Cells) → x.value ≡ Some v → y ≡ record { cell = c; value = o } →
     c ≡ x.cell → o ≡ get s c → y ∷ [] ≡ inverse (sets (x ∷ [])) s
 one_before x y v c o s is made same was =

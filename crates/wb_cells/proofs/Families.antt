@@ -355,12 +355,3 @@ module _ (p : Pattern) (c : Cell) (b : Begins p c) (no_object : (n : Name) → m
   none_before (Mapping e) before = b.none_before (Mapping e) tt (with_true (is_le (cell_cmp c (Mapping e))) false before)
   none_before (Implicit e) before = b.none_before (Implicit e) tt (with_true (is_le (cell_cmp c (Implicit e))) false before)
   none_before (Element e i) before = b.none_before (Element e i) tt (with_true (is_le (cell_cmp c (Element e i))) false before)
-
-  all_before : (xs : List Cell) → AllByRecursion (λ x. is_from c x ≡ false → matches p x ≡ false) xs
-  all_before [] = tt
-  all_before (x ∷ xs) = (none_before x, all_before xs)
-
-  pub family_found : (m : BTreeMap Cell Value) (part : List (Cell × Value)) → IsOrdered cell_cmp m →
-      part ≡ entries_between cell_cmp (Included c) Unbounded m.entries
-      → take (prefix_len (named p) part) part ≡ seen (map_state m) p
-  family_found m part s is = found p c b m part (all_before (keys m)) s is

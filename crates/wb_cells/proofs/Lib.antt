@@ -17,7 +17,6 @@ pub mod Labels
 pub mod Runs
 pub mod LastRun
 pub mod RectangleRead
-pub mod Members
 pub mod MemberSets
 pub mod MemberMaps
 pub mod Lying

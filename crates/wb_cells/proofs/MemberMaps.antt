@@ -1,5 +1,5 @@
 -- The members of the domains, when one is put in or taken out.
-use Rattle.std.proofs.Common.{◌≡◌, Bool, true, false, cond, not, ◌&&◌, ◌||◌, List, [], ◌∷◌, length, Option, Some, None, refl, sym, ap, subst, ◌∙◌}
+use Rattle.std.proofs.Common.{◌≡◌, Bool, true, false, cond, not, ◌&&◌, ◌||◌, List, [], ◌∷◌, Option, Some, None, refl, sym, ap, subst, ◌∙◌}
 use Rattle.std.specs.BTreeMap.{is_at}
 use Rattle.std.specs.Cmp.{eq_by_cmp_equiv}
 use Rattle.std.specs.Cmp.Lexicographic.{slice_cmp, nat_list_cmp_total}
@@ -103,14 +103,6 @@ set_same test (e ∷ es) p found = by (test e.0) found (λ more. set_same test e
     by true h rest = ap (λ (is : List Index). (e.0, is) ∷ es) (sym (some_same e.1 p h))
     by false h rest = ap (λ ks. e ∷ ks) (rest h)
 
-pub no_length : (is : List Index) → length is ≡ 0 → is ≡ []
-no_length [] e = refl
-no_length (i ∷ is) e = cc
-
 pub one_ascends : (i : Index) → IsStrictlySortedBy index_cmp (i ∷ [])
 unfolding IsStrictlySortedBy
 one_ascends i = (tt, tt)
-
-pub none_ascend : IsStrictlySortedBy index_cmp []
-unfolding IsStrictlySortedBy
-none_ascend = tt

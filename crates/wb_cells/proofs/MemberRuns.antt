@@ -41,10 +41,6 @@ or_true false = refl
 pub has_later : (i : Index) (is : List Index) (j : Index) → has is j ≡ true → has (i ∷ is) j ≡ true
 has_later i is j h = ap (λ b. is_same_index j i || b) h ∙ or_true (is_same_index j i)
 
-pub has_told : (o : Option (List Index)) (j : Index) → has (unwrap_or o []) j ≡ true → has_index o j ≡ true
-has_told None j h = cc
-has_told (Some is) j h = h
-
 -- changes that clear what a walk has left, one change further: f makes a change of an entry
 pub cleared_step : {X : Type 0} (f : X → Change Cell Value) (es : List X) (k : ℕ) (e : X) (d : Name) (i : Index) (is js : List Index) (r : Type 0) → k < length es →
     e ≡ get_or es k e → f e ≡ record { cell = Member d i; value = None } → is ≡ i ∷ js →

@@ -134,10 +134,6 @@ one_started (y ∷ rs) r n e h =
     let at : r.start ≡ (n + length c) + length (all_changes rs) = omega (arith, e, length-append c (all_changes rs)) in
     (h.0, one_started rs r (n + length c) at h.1)
 
-pub behind_first : (xs ys : Changes) (k : ℕ) → length xs ≤ k → slice_get (xs ++ ys) k ≡ slice_get ys (k - length xs)
-behind_first xs ys k low =
-    get-behind xs ys (k - length xs) k (omega (arith, low))
-
 -- no more are counted than there are
 pub count_few : (xs : Changes) → count_of xs ≤ length xs
 count_few [] = omega arith

@@ -7,7 +7,7 @@ use Rattle.std.proofs.lemmas.Slice.Eq.{bytes_eq-Decides}
 use Rattle.clap.specs.Words.{ReadsOne, Row, Text, TriesOne, one_of, one_text, rows_of}
 use Rattle.clap.specs.declared.parser.matches.Found.{Found}
 use Rattle.clap.proofs.WalkLemmas.{one_text-rows}
-use Rattle.wb_command.specs.Asks.{HasNumber, HasWorkers, IsDay, IsDesk, IsOptional, IsPlace, IsStay, Means, MeansAny, Writes, is_set, word_of}
+use Rattle.wb_command.specs.Asks.{HasNumber, HasWorkers, IsDay, IsDesk, IsOptional, IsPlace, IsStay, Means, MeansAny, Writes, is_set}
 use Rattle.wb_command.specs.declared.Asked.{Asked}
 use Rattle.wb_command.specs.declared.Asked.TheVariants.{Run, RunKept, Check, Upgrade, Compact, Serve, ServeKept}
 use Rattle.wb_command.specs.declared.Place.{Place}
@@ -177,47 +177,6 @@ serve_day found (ServeKept journal port seats workers) m = m.3
 pub day_unread : (found : List Row) → ((o : Option ℕ) → IsOptional 32 (codes "idle") found o → ⊥) → (asked : Asked) → Means (codes "serve") found asked → ⊥
 day_unread found none asked m = none None (serve_day found asked m).1
 
-written_somewhere : (bits : ℕ) (o : Option Text) (n : ℕ) → NumberIn bits o n → o ≡ None → ⊥
-written_somewhere bits None n h e = h
-written_somewhere bits (Some t) n h e = some≢none t e
-
--- or where it is told
-pub day_idle : (found : List Row) (o : Option ℕ) → IsOptional 32 (codes "idle") found o → is_some o ≡ true → (asked : Asked) → Means (codes "serve") found asked → ⊥
-day_idle found None h some asked m = true≢false (sym some)
-day_idle found (Some n) h some asked m = written_somewhere 32 (one_of (codes "idle") found) n h (serve_day found asked m).1
-
--- or where it is to be quiet
-pub day_quiet : (found : List Row) → is_set (codes "quiet") found ≡ true → (asked : Asked) → Means (codes "serve") found asked → ⊥
-day_quiet found set asked m = true≢false (sym set ∙ (serve_day found asked m).2)
-
-no_word : (word : Text) → Some word ≡ None → ⊥
-no_word word e = true≢false (ap is_some e)
-
--- without `--stay` it means a port
-day_port : (found : List Row) (asked : Asked) → Means (codes "serve") found asked → (port : ℕ) × IsPlace found (Port port)
-day_port found (Run resume workers) m = absurd (true≢false (ap (bytes_eq (codes "serve")) m.0))
-day_port found (RunKept journal resume workers) m = absurd (true≢false (ap (bytes_eq (codes "serve")) m.0))
-day_port found Check m = absurd (true≢false (ap (bytes_eq (codes "serve")) m))
-day_port found Upgrade m = absurd (true≢false (ap (bytes_eq (codes "serve")) m))
-day_port found (Compact journal) m = absurd (true≢false (ap (bytes_eq (codes "serve")) m.0))
-day_port found (Serve port seats resume workers) m = (port, m.4.0)
-day_port found (ServeKept journal port seats workers) m = (port, m.4.0)
-
--- and nothing where a socket was found
-pub day_socket : (found : List Row) (path : Text) → IsPlace found (Socket path) → (asked : Asked) → Means (codes "serve") found asked → ⊥
-day_socket found path h asked m = no_word path (sym h.1 ∙ (day_port found asked m).1.1)
-
--- no place where a port and a socket were found, nor where neither was
-pub place_of_both : (found : List Row) (port : ℕ) (path : Text) → HasNumber 16 (codes "port") found port → word_of (codes "socket") found ≡ Some path
-    → (place : Place) → IsPlace found place → ⊥
-place_of_both found port path h word (Port other) p = no_word path (sym word ∙ p.1)
-place_of_both found port path h word (Socket other) p = written_somewhere 16 (one_of (codes "port") found) port h p.0
-
-pub place_of_neither : (found : List Row) → one_of (codes "port") found ≡ None → word_of (codes "socket") found ≡ None
-    → (place : Place) → IsPlace found place → ⊥
-place_of_neither found none word (Port other) p = written_somewhere 16 (one_of (codes "port") found) other p.0 none
-place_of_neither found none word (Socket other) p = no_word other (sym p.1 ∙ word)
-
 -- no place where the port can't be read
 pub place_unread : (found : List Row) → ((o : Option ℕ) → IsOptional 16 (codes "port") found o → ⊥) → (place : Place) → IsPlace found place → ⊥
 place_unread found none (Port port) p = none (Some port) p.0
@@ -229,28 +188,3 @@ pub stay_alone : (found : List Row) → is_set (codes "stay") found ≡ true →
 stay_alone found set none (wanted.Once asked) m = true≢false (sym set ∙ (serve_day found asked m).0)
 stay_alone found set none (wanted.Stay stay) m = none stay m.2
 stay_alone found set none (wanted.StayKept journal stay) m = none stay m.2
-
--- without it, no desk that stays
-pub day_alone : (found : List Row) → is_set (codes "stay") found ≡ false → ((asked : Asked) → Means (codes "serve") found asked → ⊥)
-    → (w : Wanted) → MeansAny (codes "serve") found w → ⊥
-day_alone found set none (wanted.Once asked) m = none asked m
-day_alone found set none (wanted.Stay stay) m = true≢false (sym m.2.0 ∙ set)
-day_alone found set none (wanted.StayKept journal stay) m = true≢false (sym m.2.0 ∙ set)
-
--- of the other commands none means a desk that stays
-pub once_alone : (name : Text) (found : List Row) → name ≢ codes "serve" → ((asked : Asked) → Means name found asked → ⊥)
-    → (w : Wanted) → MeansAny name found w → ⊥
-once_alone name found other none (wanted.Once asked) m = none asked m
-once_alone name found other none (wanted.Stay stay) m = other m.0
-once_alone name found other none (wanted.StayKept journal stay) m = other m.0
-
--- `compact` means nothing where no file was found
-pub compact_alone : (found : List Row) → ((journal : Text) → word_of (codes "file") found ≡ Some journal → ⊥)
-    → (asked : Asked) → Means (codes "compact") found asked → ⊥
-compact_alone found none (Run resume workers) m = absurd (true≢false (ap (bytes_eq (codes "compact")) m.0))
-compact_alone found none (RunKept journal resume workers) m = absurd (true≢false (ap (bytes_eq (codes "compact")) m.0))
-compact_alone found none Check m = absurd (true≢false (ap (bytes_eq (codes "compact")) m))
-compact_alone found none Upgrade m = absurd (true≢false (ap (bytes_eq (codes "compact")) m))
-compact_alone found none (Compact journal) m = none journal m.1
-compact_alone found none (Serve port seats resume workers) m = absurd (true≢false (ap (bytes_eq (codes "compact")) m.0))
-compact_alone found none (ServeKept journal port seats workers) m = absurd (true≢false (ap (bytes_eq (codes "compact")) m.0))

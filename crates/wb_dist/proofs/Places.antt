@@ -50,9 +50,6 @@ second_true false b h = absurd (cc)
 pub positive_grid : (grid : List ℤ) → is_grid grid ≡ true → are_positive grid ≡ true
 positive_grid grid h = first_true (are_positive grid) (nat_le (size_of_grid grid) 256) h
 
-pub few_locales : (grid : List ℤ) → is_grid grid ≡ true → size_of_grid grid ≤ 256
-few_locales grid h = let g : nat_le (size_of_grid grid) 256 ≡ true = second_true (are_positive grid) (nat_le (size_of_grid grid) 256) h in grind arith
-
 pub some_locales : (grid : List ℤ) → is_grid grid ≡ true → 0 < size_of_grid grid
 some_locales grid h = positive_size grid (positive_grid grid h)
 

@@ -6,7 +6,6 @@ use Rattle.wb_cells.specs.Cells.{Cells, Changes}
 use Rattle.wb_cells.specs.declared.refusal.WhyRefused.{WhyRefused}
 use Rattle.wb_edit.specs.declared.attempt_err.AttemptErr.{AttemptErr}
 use Rattle.wb_edit.specs.declared.attempt_err.AttemptErr.TheVariants.{Refused, NoMemory}
-use Rattle.wb_edit.specs.Changed.{Judges}
 use Rattle.wb_edit.specs.Trees.{Tree, Look, judged}
 use Rattle.wb_edit.specs.Plans.{Attempts, Gives, Looks, Makes, or_refused}
 
@@ -29,16 +28,6 @@ passes s rs (Ok y) x e =
     let same : y ≡ x = cc in
     λ next. (ap (λ z. outcome (next z) s) same, ap (λ z. rs ++ reads (next z) s) same)
 passes s rs (Err why) x e = cc
-
--- a judgement that gives something
-pub decides : {X : Type 0} (s : Cells) (rs : List Pattern) (j : Result X WhyRefused) (x : X) → j ≡ Ok x → Gives (judged j) s rs x rs
-decides s rs j x e = λ next. (ap (λ r. outcome (judged r next) s) e, ap (λ r. rs ++ reads (judged r next) s) e)
-
--- a judgement that stops
-pub refuses : {X : Type 0} (s : Cells) (rs : List Pattern) (j : Result X WhyRefused) (next : X → Tree) (why : AttemptErr) → Judges j (Err why) →
-    Attempts (judged j next) s rs (Err why) rs
-refuses s rs j next (Refused why) e = (ap (λ r. outcome (judged r next) s) e, sym (ap (λ r. rs ++ reads (judged r next) s) e ∙ append-nil rs))
-refuses s rs j next NoMemory e = tt
 
 -- the end
 pub ends : (xs : Changes) (s : Cells) (rs : List Pattern) (r : Result Changes AttemptErr) → Makes xs r → Attempts (write xs) s rs r rs

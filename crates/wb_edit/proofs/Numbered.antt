@@ -118,12 +118,6 @@ not_made how (suc p) [] ys d alike = refl
 not_made how (suc p) (x ∷ xs) [] d alike = absurd (omega (arith, alike))
 not_made how (suc p) (x ∷ xs) (y ∷ ys) d alike = not_made how p xs ys d (omega (arith, alike))
 
-pub length-made_up_to : (how : Operation) (p : ℕ) (xs ys : List ℤ) → length (made_up_to how p xs ys) ≡ length xs
-length-made_up_to how zero xs ys = refl
-length-made_up_to how (suc p) [] ys = refl
-length-made_up_to how (suc p) (x ∷ xs) [] = refl
-length-made_up_to how (suc p) (x ∷ xs) (y ∷ ys) = ap suc (length-made_up_to how p xs ys)
-
 one_made : (how : Operation) (p : ℕ) (xs ys : List ℤ) (d e : ℤ) → p < length xs → p < length ys →
     set (made_up_to how p xs ys) p (result_of how (get_or xs p d) (get_or ys p e)) ≡ made_up_to how (suc p) xs ys
 one_made how p [] ys d e low below = absurd (omega (arith, low))

@@ -31,11 +31,6 @@ gives_all s (c ∷ cs) rs = λ next.
     let k = gives_all s cs (rs ++ one_of c ∷ []) (λ vs. next (get s c ∷ vs)) in
     (h.0 ∙ k.0, h.1 ∙ k.1 ∙ ap (λ ps. ps ++ reads (next (get s c ∷ map (get s) cs)) s) (append_assoc rs (one_of c ∷ []) (map one_of cs)))
 
-and-last : (a b : Bool) → (a && (b && true)) ≡ (a && b)
-and-last true true = refl
-and-last true false = refl
-and-last false b = refl
-
 and-assoc : (a b d : Bool) → (a && (b && d)) ≡ ((a && b) && d)
 and-assoc true b d = refl
 and-assoc false b d = refl

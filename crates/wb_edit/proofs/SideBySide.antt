@@ -200,10 +200,6 @@ length-side how (x ∷ xs) (y ∷ ys) e = let shorter : length xs ≡ length ys 
 
 -- ---- results of 64 bits
 
-and-true : (b : Bool) → (b && true) ≡ b
-and-true true = refl
-and-true false = refl
-
 and-assoc : (a b d : Bool) → (a && (b && d)) ≡ ((a && b) && d)
 and-assoc true b d = refl
 and-assoc false b d = refl

@@ -9,8 +9,7 @@ use Rattle.std.specs.List.{AllByRecursion, list_all, zip}
 use Rattle.std.specs.List.Sorted.{IsStrictlySortedBy}
 use Rattle.std.specs.Map.{keys_of, set_value}
 use Rattle.std.specs.Ordering.{is_eq}
-use Rattle.std.proofs.lemmas.List.{length-map, get_or-map, take_more}
-use Rattle.std.proofs.lemmas.List.Folds.{list_all-append}
+use Rattle.std.proofs.lemmas.List.{length-map}
 use Rattle.std.proofs.lemmas.Map.{keys-set_value}
 use Rattle.std.proofs.lemmas.Slice.Zip.{length-zip}
 use Rattle.wb_cells.specs.contracts.values.index.IndexOrd.TheImpl.Laws as index_laws
@@ -35,13 +34,6 @@ pub at_place : {X : Type 0} (xs : List X) (k : ℕ) → k < length xs → (x : X
 at_place [] k low = absurd (omega (arith, low))
 at_place (x ∷ xs) zero low = (x, refl)
 at_place (x ∷ xs) (suc k) low = at_place xs k (omega (arith, low))
-
--- the change at a place, by its entry
-pub is_entry : (es : List (List ℤ × Option ℤ)) (k : ℕ) (r : Index × Option ℤ) (e : List ℤ × Option ℤ) → k < length es →
-    r ≡ get_or (as_changes Point es) k r → e ≡ get_or es k e → r ≡ (Point e.0, e.1)
-is_entry es k r e low is at =
-    let g : List ℤ × Option ℤ → Index × Option ℤ = λ m. (Point m.0, m.1) in
-    is ∙ get_or-map g es k e r low ∙ ap g (sym at)
 
 same_go : (ps : List (List ℤ)) (n : Option ℤ) (k : ℕ) (i : Index) → slice_get (map Point ps) k ≡ Some i →
     (i, n) ≡ get_or (as_changes Point (map (λ p. (p, n)) ps)) k (i, n)
@@ -76,9 +68,6 @@ pub many_changes : (es : List (List ℤ × Option ℤ)) → length (as_changes P
 many_changes [] = refl
 many_changes (e ∷ es) = ap suc (many_changes es)
 
-pub many_same : (rs : List (List ℤ)) (n : Option ℤ) → length (indices rs) ≡ length (rectangle_entries rs n)
-many_same rs n = length-map (product rs) Point ∙ sym (length-map (product rs) (λ p. (p, n)))
-
 pub many_each : (rs : List (List ℤ)) (ns : List ℤ) → length (numbered_entries rs ns) ≡ min (length (indices rs)) (length ns)
 many_each rs ns =
     length-zip (product rs) (map (λ n. Some n) ns)
@@ -94,9 +83,6 @@ zipped (p ∷ ps) v = ap (λ es. (p, Some v) ∷ es) (zipped ps v)
 pub whole_same : (rs : List (List ℤ)) (n : Option ℤ) → is_some n ≡ true → IsWhole rs (rectangle_entries rs n)
 whole_same rs None some = cc
 whole_same rs (Some v) some = (map (λ p. v) (product rs), length-map (product rs) (λ p. v), zipped (product rs) v)
-
-pub whole_each : (rs : List (List ℤ)) (ns : List ℤ) → length ns ≡ length (indices rs) → IsWhole rs (numbered_entries rs ns)
-whole_each rs ns many = (ns, many ∙ length-map (product rs) Point, refl)
 
 either : (t : Bool) (v : ℤ) (o : Option ℤ) → is_some o ≡ true → is_some (cond t (Some v) o) ≡ true
 either true v o some = refl
@@ -180,14 +166,6 @@ numbered_is es rs ns sorted same many =
 
 -- ---- one entry after another
 
-pub pass_entry : (p : List ℤ × Option ℤ → Bool) (es : List (List ℤ × Option ℤ)) (k : ℕ) → k < length es → list_all p (take k es) ≡ true →
-    ((e : List ℤ × Option ℤ) → e ≡ get_or es k e → p e ≡ true) → list_all p (take (k + 1) es) ≡ true
-pass_entry p es k low all here =
-    let x = at_place es k low in
-    let passes : p x.0 ≡ true = here x.0 x.1 in
-    ap (list_all p) (take_more es k x.0 low ∙ ap (λ (y : List ℤ × Option ℤ). take k es ++ y ∷ []) (sym x.1))
-    ∙ list_all-append p (take k es) (x.0 ∷ []) ∙ rw (all, passes) refl
-
 never_both : (b : Bool) → b && false ≡ false
 never_both true = refl
 never_both false = refl
@@ -251,10 +229,6 @@ module _ {I : Type 0} (f : I → Index) where
   all_of-last is_of [] e all here = (here, tt)
   all_of-last is_of (x ∷ es) e all here = (all.0, all_of-last is_of es e all.1 here)
 
-  pub numbers-indexed : (es : List (I × ℤ)) → map (λ (e : Index × ℤ). e.1) (indexed f es) ≡ map (λ (e : I × ℤ). e.1) es
-  numbers-indexed [] = refl
-  numbers-indexed (e ∷ es) = ap (λ ns. e.1 ∷ ns) (numbers-indexed es)
-
   pub filled-indexed : (es : List (I × ℤ)) (n : ℤ) → indexed f (map (λ e. (e.0, n)) es) ≡ map (λ e. (e.0, n)) (indexed f es)
   filled-indexed [] n = refl
   filled-indexed (e ∷ es) n = ap (λ fs. (f e.0, n) ∷ fs) (filled-indexed es n)
@@ -281,10 +255,6 @@ module _ {I : Type 0} (f : I → Index) where
       let here : x.0 ≡ e.0 = cc in
       let rest : keys_of fs ≡ keys_of es = cc in
       (ap (λ (k : I). is_of (f k)) here ∙ all.0, all_of-keys is_of es fs rest all.1)
-
-pub keys-filled : {I : Type 0} (es : List (I × ℤ)) (n : ℤ) → keys_of (map (λ (e : I × ℤ). (e.0, n)) es) ≡ keys_of es
-keys-filled [] n = refl
-keys-filled (e ∷ es) n = ap (λ ks. e.0 ∷ ks) (keys-filled es n)
 
 module _ {K : Type 0} (cmp : K → K → Ordering) (total : IsTotalOrder cmp) (e : K × ℤ) where
   all_under : (es : List (K × ℤ)) → IsStrictlySortedBy cmp (keys_of es) → ((k : ℕ) (d : K × ℤ) → suc k ≡ length es → cmp (get_or es k d).0 e.0 ≡ Less) →

@@ -1,6 +1,6 @@
 -- Blocks: what is in them, after one is added and after those of a number are taken away.
-use Rattle.std.proofs.Common.{◌≡◌, ◌⊎◌, inl, inr, ℕ, ◌<◌, ◌≤◌, ◌+◌, ◌-◌, Bool, true, false, ◌&&◌, ◌||◌, ◌==◌, if◌then◌else◌, List, [], ◌∷◌, ◌++◌, Option, Some}
-use Rattle.std.proofs.Common.{None, Result, Ok, Err, length, take, drop, set, get_or, suc, zero, refl, sym, ap, subst, ◌∙◌, arith}
+use Rattle.std.proofs.Common.{◌≡◌, ◌⊎◌, inl, inr, ℕ, ◌<◌, ◌≤◌, ◌+◌, ◌-◌, Bool, true, false, ◌&&◌, ◌||◌, ◌==◌, if◌then◌else◌, List, [], ◌∷◌, ◌++◌}
+use Rattle.std.proofs.Common.{Result, Ok, Err, length, take, drop, set, get_or, suc, zero, refl, sym, ap, ◌∙◌, arith}
 use Rattle.std.specs.Cmp.{IsTotalOrder}
 use Rattle.std.specs.Cmp.Lexicographic.{lists_total}
 use Rattle.std.specs.Cmp.{int_cmp_total}
@@ -12,19 +12,18 @@ use Rattle.std.specs.declared.cmp.Ordering.{Ordering}
 use Rattle.std.specs.Result.{is_ok}
 use Rattle.std.specs.declared.cmp.Ordering.TheVariants.{Less, Equal, Greater}
 use Rattle.std.proofs.lemmas.Bool.{cases_lt}
-use Rattle.std.proofs.lemmas.List.Folds.{list_any_at, list_any_none, list_any_more}
+use Rattle.std.proofs.lemmas.List.Folds.{list_any_at, list_any_none}
 use Rattle.std.proofs.lemmas.Bool.Decides.{nat_tests}
 use Rattle.wb_sets.specs.Places.{IsGap}
 use Rattle.wb_sets.proofs.Ascending.{gap_by}
 use Rattle.wb_cells.specs.declared.values.index.Index.{Index}
 use Rattle.wb_footprints.specs.declared.marks.blocks.MarkBlock.{MarkBlock}
 use Rattle.wb_footprints.specs.declared.marks.numbers.Numbers.{Numbers}
-use Rattle.wb_footprints.specs.Relation.{Sets, IsLeastAfter}
+use Rattle.wb_footprints.specs.Relation.{Sets}
 use Rattle.wb_footprints.specs.Points.{Coordinates, point_cmp, in_points}
 use Rattle.wb_footprints.specs.Indices.{in_indices}
 use Rattle.wb_footprints.specs.Numbers.{numbered}
 use Rattle.wb_footprints.specs.Blocks.{in_blocks}
-use Rattle.wb_footprints.proofs.Meeting.{least_like}
 
 pub points_total : IsTotalOrder point_cmp
 points_total = lists_total int_cmp_total
@@ -70,15 +69,6 @@ less_of Equal e = cc
 less_of Greater e = cc
 
 -- ---- numbers in blocks
-
-below_apart : (a n : ℕ) → n < a → (a == n) ≡ false
-below_apart a n l = grind (arith, nat_tests)
-
-above_apart : (a n : ℕ) → a < n → (a == n) ≡ false
-above_apart a n l = grind (arith, nat_tests)
-
-itself : (n : ℕ) → (n == n) ≡ true
-itself n = grind (arith, nat_tests)
 
 and_out : (a b : Bool) → b ≡ false → a && b ≡ false
 and_out true b e = e
@@ -128,32 +118,6 @@ pub above_last : (xs : List Coordinates) (p x : Coordinates) → IsStrictlySorte
 above_last xs p x s some is less =
     let last = ap (λ y. point_cmp y p) (sym is) ∙ less in
     out_of_lower xs p (all_below xs p x (length xs - 1) s (before_last (length xs) some) last)
-
--- ---- the least number
-
-module _ (p q : ℕ → Bool) (hit : Bool) (after : ℕ) where
-  abbrev more : ℕ → Bool
-  more n = p n || (hit && q n)
-
-  pub none_more : (first : Option ℕ) → IsLeastAfter q after None → IsLeastAfter p after first → IsLeastAfter more after first
-  none_more None h g = λ n up. or_out (p n) _ (g n up) (and_out hit _ (h n up))
-  none_more (Some i) h g = (g.0, or_in (p i) _ g.1, λ n up down. or_out (p n) _ (g.2 n up down) (and_out hit _ (h n up)))
-
-  pub too_high : (i j : ℕ) → i ≤ j → IsLeastAfter q after (Some j) → IsLeastAfter p after (Some i) → IsLeastAfter more after (Some i)
-  too_high i j l h g = (g.0, or_in (p i) _ g.1, λ n up down. or_out (p n) _ (g.2 n up down) (and_out hit _ (h.2 n up (omega (arith, l, down)))))
-
-  pub not_hit : (first : Option ℕ) → hit ≡ false → IsLeastAfter p after first → IsLeastAfter more after first
-  not_hit None e h = λ n up. or_out (p n) _ (h n up) (ap (λ b. b && q n) e)
-  not_hit (Some j) e h = (h.0, or_in (p j) _ h.1, λ n up down. or_out (p n) _ (h.2 n up down) (ap (λ b. b && q n) e))
-
-  at_number : (j : ℕ) → hit ≡ true → q j ≡ true → more j ≡ true
-  at_number j e is = or_last (p j) _ (ap (λ b. b && q j) e ∙ is)
-
-  pub first_hit : (j : ℕ) → hit ≡ true → IsLeastAfter q after (Some j) → IsLeastAfter p after None → IsLeastAfter more after (Some j)
-  first_hit j e h g = (h.0, at_number j e h.1, λ n up down. or_out (p n) _ (g n up) (and_out hit _ (h.2 n up down)))
-
-  pub lesser_hit : (i j : ℕ) → hit ≡ true → j < i → IsLeastAfter q after (Some j) → IsLeastAfter p after (Some i) → IsLeastAfter more after (Some j)
-  lesser_hit i j e l h g = (h.0, at_number j e h.1, λ n up down. or_out (p n) _ (g.2 n up (omega (arith, l, down))) (and_out hit _ (h.2 n up down)))
 
 -- ---- a list of blocks
 
@@ -226,16 +190,3 @@ pub bare_gone : (xs ys : List MarkBlock) (i : ℕ) (b : MarkBlock) → i < lengt
     (p : Index) (n : ℕ) → in_blocks ys p n ≡ in_blocks xs p n
 bare_gone xs ys i b l none e p n = rw e (removed_any (λ (y : MarkBlock). in_indices y.indices p && numbered y.numbers n) xs i b l
     (and_out (in_indices (get_or xs i b).indices p) _ (none n)))
-
-pub cleared : (old new : List MarkBlock) (number : ℕ) → ((p : Index) (n : ℕ) → (number == n) ≡ false → in_blocks new p n ≡ in_blocks old p n) →
-    ((p : Index) → in_blocks new p number ≡ false) → Sets (in_blocks old) (in_blocks new) (λ p. true) number false
-cleared old new number others gone = record { at = λ p n. by p n (number == n) refl }
-  where
-    by : (p : Index) (n : ℕ) (b : Bool) → (number == n) ≡ b → in_blocks new p n ≡ (if true && b then false else in_blocks old p n)
-    by p n true e = subst (λ (k : ℕ). in_blocks new p k ≡ false) (number_is number n e) (gone p)
-    by p n false e = others p n e
-
-pub least_more : (xs : List MarkBlock) (i after : ℕ) (d : MarkBlock) → i < length xs → (x : MarkBlock) → x ≡ get_or xs i d → (p : Index) (r : Option ℕ) →
-    IsLeastAfter (λ n. in_blocks (take i xs) p n || (in_indices x.indices p && numbered x.numbers n)) after r → IsLeastAfter (in_blocks (take (i + 1) xs) p) after r
-least_more xs i after d l x e p r h = least_like (λ n. in_blocks (take i xs) p n || (in_indices x.indices p && numbered x.numbers n)) (in_blocks (take (i + 1) xs) p)
-    after r (λ n. rw e (list_any_more (λ b. in_indices b.indices p && numbered b.numbers n) xs i d l)) h

@@ -68,11 +68,6 @@ pub grown : {T E X : Type 0} (r : Result T E) (b : Bool) (old more new : List X)
 grown (Ok x) b old more new is said e = e
 grown (Err x) b old more new is said e = cc
 
-pub as_it_was : {T E X : Type 0} (r : Result T E) (b : Bool) (old more new : List X) → b ≡ is_err r → b ≡ true → new ≡ (if is_ok r then more else old) →
-    new ≡ old
-as_it_was (Ok x) b old more new is said e = cc
-as_it_was (Err x) b old more new is said e = e
-
 -- ---- places that are the same
 
 -- which are one where both numbers are

@@ -2,7 +2,6 @@
 use Rattle.std.proofs.Common.{◌≡◌, ℕ, ◌+◌, ◌<◌, ◌≤◌, Bool, true, false, ◌&&◌, ◌||◌, ◌==◌, if◌then◌else◌, Option, Some, None}
 use Rattle.std.proofs.Common.{List, [], ◌∷◌, ◌++◌, length, take, set, get_or, suc, zero, refl, sym, ap, subst, ◌∙◌, arith}
 use Rattle.std.specs.List.{list_any}
-use Rattle.std.proofs.lemmas.List.{nil_from_length}
 use Rattle.std.proofs.lemmas.List.Folds.{list_any-append}
 use Rattle.wb_footprints.specs.declared.marks.numbers.Numbers.{Numbers}
 use Rattle.wb_footprints.specs.declared.marks.reach_marks.ReachMarks.{ReachMarks}
@@ -72,10 +71,3 @@ reach_more rs fresh new here number none s = record {
       ∙ ap (λ b. in_reaches rs p n || (b || false)) (s.at p n ∙ if_then (here p && (number == n)) (in_groups fresh.groups.entries p n) (none p n))
       ∙ last_then (in_reaches rs p n) (here p && (number == n));
 }
-
-same_where : (f g x : Bool) → f ≡ g → (if f then true else x) ≡ (if g then true else x)
-same_where f g x e = ap (λ b. if b then true else x) e
-
--- no point, no number
-pub none_asked : (rs : List ReachMarks) (ps : List Index) (n : ℕ) → length ps ≡ 0 → list_any (λ p. in_reaches rs p n) ps ≡ false
-none_asked rs ps n e = ap (list_any (λ p. in_reaches rs p n)) (nil_from_length ps e)

@@ -4,7 +4,7 @@ use Rattle.std.proofs.Common.{◌⊎◌, inl, inr, drop, get_or, refl, subst, ar
 use lib.Dec.{ltb}
 use lib.Utf8.{scalar, scalars, encode, encodes, scalar_cases}
 use Rattle.std.proofs.lemmas.Bool.{and_parts}
-use Rattle.std.proofs.lemmas.Cmp.{ranked, eq_by_cmp_equiv, nat_list_cmp_total}
+use Rattle.std.proofs.lemmas.Cmp.{ranked, nat_list_cmp_total}
 use Rattle.std.specs.Cmp.{IsTotalOrder}
 use Rattle.std.specs.FinMap.{IsAntisymmetric, slice_cmp-IsAntisymmetric, nat_cmp-IsAntisymmetric}
 use Rattle.std.specs.List.{AllByRecursion}
@@ -30,9 +30,6 @@ equal_from Greater e = cc
 -- labels that compare as equal are one
 pub same_text : (a b : Text) → eq_by_cmp text_cmp a b ≡ true → a ≡ b
 same_text a b e = texts_exact a b (equal_from (text_cmp a b) e)
-
-pub itself : (t : Text) → eq_by_cmp text_cmp t t ≡ true
-itself t = (eq_by_cmp_equiv texts_total).refl t
 
 -- ---- the bytes of a label
 

@@ -1,5 +1,5 @@
 -- Numbers that come into a set: one after another, and pass by pass.
-use Rattle.std.proofs.Common.{◌≡◌, ℕ, ◌+◌, ◌-◌, ◌<◌, ◌≤◌, ◌==◌, Bool, true, false, true≢false, ◌&&◌, ◌||◌, if◌then◌else◌, ◌⊎◌, inl, inr, Option, Some, None}
+use Rattle.std.proofs.Common.{◌≡◌, ℕ, ◌+◌, ◌-◌, ◌<◌, ◌≤◌, ◌==◌, Bool, true, false, true≢false, ◌||◌, if◌then◌else◌, ◌⊎◌, inl, inr, Option, Some, None}
 use Rattle.std.proofs.Common.{List, [], ◌∷◌, ◌++◌, length, take, get_or, refl, sym, ap, subst, ◌∙◌, arith}
 use Rattle.std.specs.Cmp.{IsTotalOrder}
 use Rattle.std.specs.FinMap.{IsAntisymmetric}
@@ -92,21 +92,6 @@ joined_above old new p q after e h = record {
 
 pub joined_like : (old new : Numbers) (p q : ℕ → Bool) (after : ℕ) → ((n : ℕ) → q n ≡ p n) → JoinedAfter old new p after → JoinedAfter old new q after
 joined_like old new p q after e h = joined_above old new p q after (λ n up. e n) h
-
--- ---- the numbers of a block
-
-pub not_hit : (hit : Bool) (q : ℕ → Bool) (after : ℕ) (old : Numbers) → hit ≡ false → JoinedAfter old old (λ n. hit && q n) after
-not_hit hit q after old e = none_joined old _ after (λ n up. ap (λ b. b && q n) e)
-
-pub all_hit : (hit : Bool) (q : ℕ → Bool) (after : ℕ) (old new : Numbers) → hit ≡ true → JoinedAfter old new q after → JoinedAfter old new (λ n. hit && q n) after
-all_hit hit q after old new e h = joined_like old new q (λ n. hit && q n) after (λ n. ap (λ b. b && q n) e) h
-
-and_out : (hit b : Bool) → b ≡ false → hit && b ≡ false
-and_out true b e = e
-and_out false b e = refl
-
-pub none_above : (hit : Bool) (q : ℕ → Bool) (after : ℕ) (old : Numbers) → IsLeastAfter q after None → JoinedAfter old old (λ n. hit && q n) after
-none_above hit q after old h = none_joined old _ after (λ n up. and_out hit (q n) (h n up))
 
 -- ---- a list
 

@@ -1,9 +1,6 @@
 -- The cells of a run are of one family.
-use Rattle.std.proofs.Common.{◌≡◌, ℕ, ℤ, ◌<◌, Bool, true, List, [], ◌∷◌, Option, map, length, get_or, refl, sym, ap}
-use Rattle.std.proofs.Common.{◌∙◌, arith}
-use Rattle.std.specs.Cmp.Lexicographic.{slice_cmp}
+use Rattle.std.proofs.Common.{◌≡◌, ℕ, ℤ, ◌<◌, Bool, List, [], ◌∷◌, Option, map, length, get_or, refl, sym, ap, ◌∙◌, arith}
 use Rattle.std.specs.List.{list_any}
-use Rattle.std.specs.Ordering.{nat_cmp, eq_by_cmp}
 use Rattle.selective_undo.specs.declared.Change.{Change}
 use Rattle.wb_cells.specs.declared.cells.cell.Cell.{Cell}
 use Rattle.wb_cells.specs.declared.cells.value.Value.{Value}
@@ -12,19 +9,14 @@ use Rattle.wb_cells.specs.declared.changes.row.IndexedRow.TheVariants.{Inside, M
 use Rattle.wb_cells.specs.declared.changes.run.RunForm.{RunForm}
 use Rattle.wb_cells.specs.declared.changes.run.RunForm.TheVariants.{One, Rank1, Rank2, Rank3, Labels, Rectangle, Numbers}
 use Rattle.wb_cells.specs.declared.values.index.Index.TheVariants.{Point, Text}
-use Rattle.wb_cells.specs.Cells.{Name, same_names}
 use Rattle.wb_cells.specs.Runs.{cell_of, change_at, packed_changes, labelled_at, labelled_changes, rectangle_entries, numbered_entries, changes_in}
 use Rattle.wb_footprints.specs.declared.foot_index.FootIndex.{FootIndex}
 use Rattle.wb_footprints.specs.declared.places.place.Place.{Place}
 use Rattle.wb_footprints.specs.Places.{family, place_marked}
 use Rattle.wb_footprints.specs.Footprints.{marked_family}
 use Rattle.wb_footprints.proofs.Meeting.{any_like, any_map, at_family}
-use Rattle.wb_footprints.proofs.Ranges.{equal_from}
 use Rattle.wb_footprints.proofs.ReadPlaces.{or_false}
 use Rattle.wb_footprints.proofs.RunPlaces.{always}
-
-pub one_name : (d e : Name) → eq_by_cmp (slice_cmp nat_cmp) d e ≡ true → d ≡ e
-one_name d e is = same_names d e (equal_from (slice_cmp nat_cmp d e) is)
 
 module _ (g : Option Place → Bool) where
   -- changes made alike, each of one family

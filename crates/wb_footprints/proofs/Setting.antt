@@ -1,7 +1,6 @@
 -- What several writes of one number do together.
 use Rattle.std.proofs.Common.{◌≡◌, ℕ, Bool, true, false, ◌&&◌, ◌||◌, ◌==◌, if◌then◌else◌, List, [], ◌∷◌, suc, ◌<◌, length, take, drop, get_or, refl, sym, ap}
-use Rattle.std.proofs.Common.{◌∙◌, arith}
-use Rattle.std.proofs.lemmas.Bool.Decides.{nat_tests}
+use Rattle.std.proofs.Common.{◌∙◌}
 use Rattle.std.proofs.Math.Seq.{take-suc}
 use Rattle.std.proofs.lemmas.List.{take-append-drop}
 use Rattle.std.proofs.lemmas.List.Folds.{list_any-append}
@@ -18,11 +17,6 @@ twice false true true b x = refl
 twice false true false b x = refl
 twice false false true b x = refl
 twice false false false b x = refl
-
-outside : (h g num b x y : Bool) → (h || g) && num ≡ false → (if h && num then b else x) ≡ y → x ≡ y
-outside true g true b x y out e = cc
-outside true g false b x y out e = e
-outside false g num b x y out e = e
 
 pub part_out : (h g num : Bool) → (h || g) && num ≡ false → (h && num ≡ false) × (g && num ≡ false)
 part_out true g true out = cc
@@ -57,36 +51,11 @@ module _ {A : Type 0} where
   pub stays_none : (o n : A → ℕ → Bool) (g : A → Bool) (number : ℕ) → ((a : A) (k : ℕ) → n a k ≡ o a k) → Stays o n g number
   stays_none o n g number e = record { at = λ a k out. e a k }
 
-taken_false : (h num x : Bool) → x ≡ false → (if h && num then false else x) ≡ false
-taken_false true true x e = refl
-taken_false true false x e = e
-taken_false false num x e = e
-
-taken_here : (h num x : Bool) → h ≡ true → num ≡ true → (if h && num then false else x) ≡ false
-taken_here true true x e f = refl
-taken_here true false x e f = cc
-taken_here false num x e f = cc
-
-not_taken : (h num x : Bool) → num ≡ false → (if h && num then false else x) ≡ x
-not_taken true true x e = cc
-not_taken true false x e = refl
-not_taken false num x e = refl
-
 pub either : (h g : Bool) (P : Type 0) → (h ≡ true → P) → (g ≡ true → P) → h || g ≡ true → P
 either true g P f k e = f refl
 either false g P f k e = k e
 
-pub same_number : (n : ℕ) → (n == n) ≡ true
-same_number n = grind (arith, nat_tests)
-
 module _ {A : Type 0} where
-  pub sets_clears : (o n : A → ℕ → Bool) (h : A → Bool) (number : ℕ) → Sets o n h number false → Clears o n h number
-  sets_clears o n h number p = record {
-    gone = λ a here. p.at a number ∙ taken_here (h a) (number == number) (o a number) here (same_number number);
-    fewer = λ a was. p.at a number ∙ taken_false (h a) (number == number) (o a number) was;
-    others = λ a k other. p.at a k ∙ not_taken (h a) (number == k) (o a k) other;
-  }
-
   pub then_clears : (o m n : A → ℕ → Bool) (h g : A → Bool) (number : ℕ) → Clears o m h number → Clears m n g number → Clears o n (λ a. h a || g a) number
   then_clears o m n h g number p q = record {
     gone = λ a here. either (h a) (g a) (n a number ≡ false) (λ e. q.fewer a (p.gone a e)) (q.gone a) here;

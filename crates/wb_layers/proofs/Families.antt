@@ -1,5 +1,5 @@
 -- The cells that a pattern names, among those that have places, and the changes there.
-use Rattle.std.proofs.Common.{◌≡◌, Bool, true, false, true≢false, cond, ◌&&◌, ◌||◌, ℕ, zero, suc, ◌+◌, ◌<◌, length, arith, List, [], ◌∷◌, map, take, get_or, Option, Some, None, refl, sym, ap, subst, ◌∙◌, Ordering}
+use Rattle.std.proofs.Common.{◌≡◌, Bool, true, false, true≢false, cond, ◌&&◌, ◌||◌, ℕ, suc, ◌+◌, ◌<◌, length, arith, List, [], ◌∷◌, map, take, Option, Some, None, refl, sym, ap, ◌∙◌, Ordering}
 use Rattle.std.specs.BTreeMap.{BTreeMap, is_at}
 use Rattle.std.specs.BTreeMap as tree
 use Rattle.std.specs.BTreeMap.Range.{entries_between}
@@ -270,10 +270,3 @@ module _ (xs : Changes) where
         back : list_any (λ x. matches p x.cell) xs ≡ true → (b : Bool) → list_any (names p) m.entries ≡ b → b ≡ true
         back hit true e = refl
         back hit false e = absurd (true≢false (sym hit ∙ none_changed m f e xs (λ c there. there)))
-
--- ---- one of them, by its place in the list
-
-pub at_index : (xs : Changes) (es : Places) (i : ℕ) (e : Cell × ℕ) → AllByRecursion (λ y. y.1 < length xs) es → i < length es → e ≡ get_or es i e → e.1 < length xs
-at_index xs [] i e all low is = let no : ⊥ = omega (arith, low) in absurd no
-at_index xs (x ∷ es) zero e all low is = subst (λ (y : Cell × ℕ). y.1 < length xs) (sym is) all.0
-at_index xs (x ∷ es) (suc i) e all low is = let less : i < length es = omega (arith, low) in at_index xs es i e all.1 less is

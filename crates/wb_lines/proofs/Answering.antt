@@ -3,7 +3,7 @@ use Rattle.std.proofs.Common.{◌≡◌, ◌<◌, ◌+◌, ◌≤◌, ℕ, suc, 
 use Rattle.std.proofs.Common.{MatchBool, Bool, true, ◌==◌, ne_eqb, refl, sym, ap, ◌∙◌, subst, append_assoc, append-nil, length-append}
 use Rattle.std.proofs.Common.{arith}
 use Rattle.std.specs.Io.KnownBytes.{Appends}
-use Rattle.std.proofs.KnownBytes.{Appends-nil, Appends-trans}
+use Rattle.std.proofs.KnownBytes.{Appends-trans}
 use Rattle.std.proofs.lemmas.Bool.{le-ltb, true≢false}
 use Rattle.wb_lines.specs.Lines.{ended}
 use Rattle.wb_lines.specs.Replies.{Replies}
@@ -149,9 +149,6 @@ module _ {M Q : Type 0} (answers : M → List ℕ → List ℕ → M → Type 0)
         let j = subst (λ x. IsTaken reads line x) e i in
         whole_line answers m n line (text reply) j.0 (h line j.1)
 
-    pub asked_none : (m : M) (asked : List (List ℕ)) (left : List (Option P)) → AreTaken reads asked left → Asked answers reads text m m asked left []
-    asked_none m asked left t = record { done = []; rest = asked; all = refl; taken = t; got = refl }
-
     line_by : (m n k : M) (asked done rest : List (List ℕ)) (t : Option P) (left : List (Option P)) (replies : List (Option Q)) (r : Option Q)
         → asked ≡ done ++ rest → AreTaken reads rest (t ∷ left) → GetReplies answers text m done replies n
         → ((line : List ℕ) → IsTaken reads line t → AnswersLine answers n line (reply_text text r) k)
@@ -216,19 +213,6 @@ module _ {M Q : Type 0} (answers : M → List ℕ → List ℕ → M → Type 0)
         omega (arith, h, count, ap length split, length-append sent (first ∷ later))
 
 module _ {M P : Type 0} (answers : M → List ℕ → List ℕ → M → Type 0) (reads : List ℕ → P → Type 0) where
-  pub answering_none : (m : M) (before : Option (List ℕ)) (asked : List (List ℕ)) (left : List (Option P)) → AreTaken reads asked left
-      → Answering answers reads m m before before asked left 0
-  answering_none m before asked left t = record {
-    answered = [];
-    rest = asked;
-    text = [];
-    all = refl;
-    taken = t;
-    replies = ((refl, refl), refl);
-    written =
-        Appends-nil before;
-  }
-
   -- a turn was answered and told
   pub answering_turn : (m n k : M) (before mid after : Option (List ℕ)) (asked : List (List ℕ)) (held left : List (Option P)) (count next : ℕ)
       → Answering answers reads m n before mid asked held count

@@ -1,10 +1,7 @@
 -- How often a reader was read.
-use Rattle.std.proofs.Common.{◌≡◌, ℕ, ◌+◌, arith}
+use Rattle.std.proofs.Common.{◌≡◌, ℕ, arith}
 use Rattle.wb_lines.specs.Reading.{Reading, read_limit}
 use Rattle.wb_lines.specs.Causes.{RisesBy, CountsReads}
-
-rises-more : (m n a b c : ℕ) → RisesBy m a b → RisesBy n b c → RisesBy (m + n) a c
-rises-more m n a b c p q = omega (arith, p, q)
 
 pub counts_none : (old new : Reading) (a : ℕ) → new.reads ≡ old.reads → CountsReads old new a a
 counts_none old new a e = record { later = omega (arith, e); counted = omega (arith, e) }

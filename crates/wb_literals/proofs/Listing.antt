@@ -7,10 +7,6 @@ use Rattle.wb_literals.specs.Set.{items_at}
 abbrev pub onto : {X : Type 0} → List X → Option (List X × List ℕ) → Option (List X × List ℕ)
 onto xs r = option_map (λ x. (xs ++ x.0, x.1)) r
 
-pub onto-nil : {X : Type 0} (r : Option (List X × List ℕ)) → r ≡ onto [] r
-onto-nil None = refl
-onto-nil (Some x) = refl
-
 onto-push : {X : Type 0} (xs : List X) (x : X) (r : Option (List X × List ℕ)) → onto xs (option_map (λ more. (x ∷ more.0, more.1)) r) ≡ onto (xs ++ x ∷ []) r
 onto-push xs x None = refl
 onto-push xs x (Some more) = ap (λ ys. Some (ys, more.1)) (sym (append_assoc xs (x ∷ []) more.0))
@@ -42,6 +38,3 @@ pub more_items : {X : Type 0} (f : List ℕ → Option (X × List ℕ)) (end i :
 more_items f end i xs x rest behind next z h k =
     let e : end - i ≡ suc (end - (i + 1)) = omega (arith, z) in
     ap (λ n. onto xs (items_at f n rest)) e ∙ ap (onto xs) (more_at f (end - (i + 1)) x rest behind next h k) ∙ onto-push xs x (items_at f (end - (i + 1)) next)
-
-pub no_more : {X : Type 0} (f : List ℕ → Option (X × List ℕ)) (n : ℕ) (xs : List X) (rest : List ℕ) → n ≡ 0 → None ≡ onto xs (items_at f n rest)
-no_more f n xs rest e = rw e refl

@@ -18,14 +18,9 @@ use Rattle.wb_cells.specs.Reads.{patterns_of, all_read}
 use Rattle.wb_cells.specs.Schema.{workbook}
 use Rattle.wb_footprints.specs.declared.foot_index.FootIndex.{FootIndex}
 use Rattle.wb_footprints.specs.declared.places.place.Place.{Place}
-use Rattle.wb_footprints.specs.Footprints.{Footprints, IsIndexOf, footprint, with_footprint, read_at, touched_by, read_by}
+use Rattle.wb_footprints.specs.Footprints.{Footprints, IsIndexOf, footprint, with_footprint, touched_by, read_by}
 use Rattle.wb_footprints.specs.Places.{place_of, is_same_place}
 use Rattle.wb_log.specs.Sets.{each_read, cells_in, AreCells, NameAlike}
-
--- ---- the same patterns
-
-pub same_alike : (rs qs : List Pattern) → rs ≡ qs → NameAlike rs qs
-same_alike rs qs e = record { places = λ q. ap (λ ps. read_at ps q) e; cells = λ c. ap (λ ps. covers workbook ps c) e }
 
 -- ---- one look before each cell
 

@@ -1,5 +1,5 @@
 -- Which cells the patterns of runs name.
-use Rattle.std.proofs.Common.{◌≡◌, Bool, true, false, ◌||◌, List, [], ◌∷◌, ◌++◌, refl, sym, ap, ◌∙◌}
+use Rattle.std.proofs.Common.{◌≡◌, Bool, true, false, ◌||◌, List, [], ◌∷◌, refl, sym, ap, ◌∙◌}
 use Rattle.std.specs.List.{list_any}
 use Rattle.std.specs.Ordering.{eq_by_cmp}
 use Rattle.std.proofs.lemmas.Cmp.{eq_by_cmp_equiv}
@@ -29,6 +29,3 @@ pub any_covers : (rs : List ReadRun) (c : Cell) → list_any (λ r. covers workb
 any_covers [] c = refl
 any_covers (r ∷ rs) c = ap (λ b. covers workbook (read_in r) c || b) (any_covers rs c) ∙
     sym (list_any-append (λ p. matches p c) (read_in r) (all_read rs))
-
-pub both_cover : (ps qs : List Pattern) (c : Cell) → (covers workbook ps c || covers workbook qs c) ≡ covers workbook (ps ++ qs) c
-both_cover ps qs c = sym (list_any-append (λ p. matches p c) ps qs)

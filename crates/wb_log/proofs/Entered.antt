@@ -179,8 +179,3 @@ undone_indexed es k x is low old new (Ok n) y b d h ok taken entry same =
     (taken (length es) (by_number es) h (kept_here es k x is)))
 undone_indexed es k x is low old new (Err why) y b d h ok taken entry same =
     subst (λ fs. IsIndexed new fs) (sym (ap (slice_set es k) entry ∙ set_same es k x is es k x is)) (subst (λ i. IsIndexed i es) (sym same) h)
-
-pub still_indexed : {X : Type 0} (x : EditIndex) (es fs : List kept.LoggedEdit) (r : Result X Refusal) → IsIndexed x es →
-    OnOk r ((y : kept.LoggedEdit) × (fs ≡ es ++ y ∷ [])) → OnErr r (fs ≡ es) → IsIndexed x fs
-still_indexed x es fs (Ok n) h more stays = subst (λ gs. IsIndexed x gs) (sym more.1) (more_indexed x es more.0 h)
-still_indexed x es fs (Err why) h more stays = subst (λ gs. IsIndexed x gs) (sym stays) h

@@ -18,23 +18,13 @@ use Rattle.wb_cells.specs.declared.changes.run.RunForm.TheVariants.{Rectangle}
 use Rattle.wb_cells.specs.declared.reads.ReadRun.{ReadRun}
 use Rattle.wb_cells.specs.declared.values.index.Index.TheVariants.{Point}
 use Rattle.wb_cells.specs.Cells.{Name, Cells, Changes}
-use Rattle.wb_cells.specs.Reads.{patterns_of, read_in, all_read}
+use Rattle.wb_cells.specs.Reads.{patterns_of, all_read}
 use Rattle.wb_cells.specs.Runs.{cell_of, changes_in, all_changes, in_first, packed_changes, rectangle_entries, numbered_entries}
 use Rattle.wb_cells.specs.Shapes.{Range, indices}
 use Rattle.wb_log.specs.Fills.{filled_cells, values_in, values_of}
 use Rattle.wb_log.specs.Sets.{cells_in, AreCells}
 
 -- ---- lists of one
-
-pub one_alone : (ps : List Pattern) (p : Pattern) → length ps ≡ 1 → ps ≡ get_or ps 0 p ∷ []
-one_alone [] p e = absurd (omega (arith, e))
-one_alone (x ∷ []) p e = refl
-one_alone (x ∷ y ∷ ps) p e = absurd (omega (arith, e))
-
-pub one_read : (rs : List ReadRun) (r : ReadRun) → length rs ≡ 1 → all_read rs ≡ read_in (get_or rs 0 r)
-one_read [] r e = absurd (omega (arith, e))
-one_read (x ∷ []) r e = append-nil (read_in x)
-one_read (x ∷ y ∷ rs) r e = absurd (omega (arith, e))
 
 pub one_changed : (rs : List ChangeRun) (r : ChangeRun) → length rs ≡ 1 → all_changes rs ≡ changes_in (get_or rs 0 r).form
 one_changed [] r e = absurd (omega (arith, e))

@@ -1,5 +1,5 @@
 -- Plans that change one cell, and what is kept of them.
-use Rattle.std.proofs.Common.{◌≡◌, true, List, [], ◌∷◌, ◌++◌, length, get_or, None, refl, ap, arith}
+use Rattle.std.proofs.Common.{◌≡◌, true, [], ◌∷◌, length, get_or, None, refl, ap, arith}
 use Rattle.std.specs.FinMap.{get}
 use Rattle.std.specs.Ordering.{eq_by_cmp, is_eq}
 use Rattle.std.specs.declared.cmp.Ordering.{Ordering}
@@ -8,9 +8,7 @@ use Rattle.selective_undo.specs.Changes.{inverse}
 use Rattle.wb_cells.specs.declared.cells.cell.Cell.{Cell}
 use Rattle.wb_cells.specs.Cells.{Cells, Changes, cell_cmp, cell_cmp-IsAntisymmetric}
 use Rattle.wb_cells.specs.declared.cells.pattern.Pattern.TheVariants.{One}
-use Rattle.wb_cells.specs.declared.cells.pattern.Pattern.{Pattern}
-use Rattle.wb_cells.specs.declared.reads.ReadRun.{ReadRun}
-use Rattle.wb_cells.specs.Reads.{patterns_of, read_in, all_read}
+use Rattle.wb_cells.specs.Reads.{patterns_of}
 use Rattle.wb_log.specs.declared.entry.RecordForm.{RecordForm}
 use Rattle.wb_log.specs.declared.entry.RecordForm.TheVariants.{Set, Copy, Irv, Member, Fill, Sets, Fills, Whole}
 use Rattle.wb_log.specs.Records.{kept_of}
@@ -35,12 +33,6 @@ pub one_listed : (xs : Changes) (d : _) (c : Cell) → length xs ≡ 1 → eq_by
 one_listed [] d c one e = absurd (omega (arith, one))
 one_listed (x ∷ []) d c one e = let same = same_cell x.cell c e in ap (λ y. One y ∷ []) same
 one_listed (x ∷ y ∷ xs) d c one e = absurd (omega (arith, one))
-
--- the patterns of one run of one
-pub one_run : (rs : List ReadRun) (r : ReadRun) (p : Pattern) → length rs ≡ 1 → read_in (get_or rs 0 r) ≡ p ∷ [] → all_read rs ≡ p ∷ []
-one_run [] r p one e = absurd (omega (arith, one))
-one_run (x ∷ []) r p one e = ap (λ ps. ps ++ []) e
-one_run (x ∷ y ∷ rs) r p one e = absurd (omega (arith, one))
 
 -- nothing is kept where nothing is told of the cell
 pub none_kept : (f : RecordForm) → kept_of f None ≡ None

@@ -1,11 +1,10 @@
 -- Nobody undoes an edit by fewer undos than it has dependents.
-use Rattle.std.proofs.Common.{◌≡◌, ◌≢◌, ◌≤◌, ◌-◌, ◌++◌, ℕ, zero, suc, List, [], ◌∷◌, length, map, Result, Ok, Err, IfOk, inl, inr, arith, refl, sym, ap, subst, ◌∙◌}
+use Rattle.std.proofs.Common.{◌≡◌, ◌≢◌, ◌≤◌, ◌-◌, ◌++◌, ℕ, zero, suc, List, [], ◌∷◌, length, map, Ok, inl, inr, arith, refl, sym, ap, subst, ◌∙◌}
 use Rattle.std.proofs.lemmas.List.{length-map}
 use Rattle.selective_undo.specs.History.{Entry, traces, IsLegal, CanUndoAll, Has, Falls}
 use Rattle.selective_undo.proofs.Dependents.{no_shorter_law}
 use Rattle.wb_cells.specs.Schema.{workbook}
-use Rattle.wb_edit.specs.declared.refusal.Refusal.{Refusal}
-use Rattle.wb_log.specs.Cascades.{IsDependent, DependentsReply, CascadeReply, NoShorter}
+use Rattle.wb_log.specs.Cascades.{IsDependent, DependentsReply, NoShorter}
 
 -- ---- falling lists
 
@@ -57,8 +56,3 @@ no_shorter es k ns left legal due ks can has =
     let long = as_long ns (map suc ks) (falls_front ns left due.1.0) (λ n here. at_number es k ks legal can has n (depends n here)) in
     let same = length-map ks suc in
     (λ n here. at_place es k ks legal can has n (depends n here), omega (arith, long, same))
-
-pub shortest : {X : Type 0} (es : List (Entry workbook)) (k : ℕ) (ns : X → List ℕ) (n : X → ℕ) (r : Result X Refusal) → IsLegal es
-    → IfOk r (λ x. CascadeReply es k (Ok (ns x, n x))) → IfOk r (λ x. NoShorter es k (ns x))
-shortest es k ns n (Ok x) legal (some, (left, due), granted, count) = no_shorter es k (ns x) left legal due
-shortest es k ns n (Err why) legal reply = tt

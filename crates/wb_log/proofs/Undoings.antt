@@ -12,7 +12,7 @@ use Rattle.wb_cells.specs.Schema.{workbook}
 use Rattle.wb_edit.specs.Edits.{meaning}
 use Rattle.wb_log.specs.declared.entry.LoggedEdit as kept
 use Rattle.wb_edit.specs.declared.refusal.Refusal.TheVariants.{NotInForce, NoMemory}
-use Rattle.wb_log.specs.Past.{Numbered, meant, entry_at, out_of_force, AreValid}
+use Rattle.wb_log.specs.Past.{Numbered, meant, entry_at, out_of_force}
 use Rattle.wb_log.specs.Replies.{UndoReply}
 use Rattle.wb_log.specs.Kept.{numbered_entries, numbered, entries_meant, log, footprint, by_number, Shows}
 use Rattle.wb_log.specs.Needed.{AreFromFootprints}
@@ -20,7 +20,6 @@ use Rattle.wb_log.specs.Cascades.{DependentsReply, CascadeReply, places, touched
 use Rattle.wb_log.proofs.Depending.{by_traces, are_dependents}
 use Rattle.wb_log.proofs.Entries.{history-log, log_at}
 use Rattle.wb_log.proofs.Granted.{undo_meant}
-use Rattle.wb_log.proofs.Valid.{valid_force}
 
 -- ---- one more undo
 
@@ -104,9 +103,6 @@ pub take_more : (ns : List ℕ) (i n : ℕ) → slice_get ns i ≡ Some n → ta
 take_more [] i n is = cc
 take_more (m ∷ ns) zero n is = let h : m ≡ n = cc in ap (λ (l : ℕ). l ∷ []) h
 take_more (m ∷ ns) (suc i) n is = ap (λ ls. m ∷ ls) (take_more ns i n is)
-
-pub valid_out : (n : ℕ) (es fs : List Numbered) → AreValid es → fs ≡ out_of_force n es → AreValid fs
-valid_out n es fs valid out = subst AreValid (sym out) (valid_force false n es valid)
 
 -- ---- the dependents
 

@@ -1,6 +1,5 @@
 -- Histories of valid edits, and the well-formed workbooks that they give.
-use Rattle.std.proofs.Math.Seq.{take-append_seam}
-use Rattle.std.proofs.Common.{length, take, ◌-◌, Result, Err, IfOk, OnOk, OnErr, ◌≡◌, ℕ, zero, suc, Bool, true, false, List, [], ◌∷◌, ◌++◌, Option, Some, None}
+use Rattle.std.proofs.Common.{Result, Err, OnOk, OnErr, ◌≡◌, ℕ, zero, suc, Bool, true, false, List, [], ◌∷◌, ◌++◌, Option, Some, None}
 use Rattle.std.proofs.Common.{Ok, slice_get, slice_set, refl, sym, ap, ◌∙◌, subst}
 use Rattle.std.specs.FinMap.{empty}
 use Rattle.selective_undo.specs.Changes.{apply}
@@ -81,18 +80,3 @@ pub keeps_valid : {X : Type 0} (b : Bool) (k : ℕ) (es fs : List kept.LoggedEdi
     OnOk r (numbered_entries fs ≡ set_force b k (numbered_entries es)) → OnErr r (numbered_entries fs ≡ numbered_entries es) → AreValid (numbered_entries fs)
 keeps_valid b k es fs (Ok n) valid ok stays = subst AreValid (sym ok) (valid_force b k (numbered_entries es) valid)
 keeps_valid b k es fs (Err why) valid ok stays = subst AreValid (sym stays) valid
-
-pub keeps_valid_last : (es fs : List kept.LoggedEdit) (r : Result (ℕ × ℕ) Refusal) → AreValid (numbered_entries es) →
-    IfOk r (λ q. numbered_entries fs ≡ set_force false (q.0 - 1) (numbered_entries es)) → OnErr r (numbered_entries fs ≡ numbered_entries es) →
-    AreValid (numbered_entries fs)
-keeps_valid_last es fs (Ok q) valid ok stays = subst AreValid (sym ok) (valid_force false (q.0 - 1) (numbered_entries es) valid)
-keeps_valid_last es fs (Err why) valid ok stays = subst AreValid (sym stays) valid
-
-pub keeps_valid_more : {X : Type 0} (es fs : List kept.LoggedEdit) (e : command.Edit) (r : Result X Refusal) → AreValid (numbered_entries es) → IsValid e →
-    OnOk r (numbered_entries fs ≡ numbered_entries es ++ record { edit = e; in_force = true } ∷ []) → OnErr r (fs ≡ es) → AreValid (numbered_entries fs)
-keeps_valid_more es fs e (Ok n) valid v ok stays = subst AreValid (sym ok) (valid_append (numbered_entries es) (record { edit = e; in_force = true }) valid v)
-keeps_valid_more es fs e (Err why) valid v ok stays = subst (λ gs. AreValid (numbered_entries gs)) (sym stays) valid
-
--- what a loan of a whole list of entries gives back
-pub whole_slice : (n : ℕ) (xs ys : List kept.LoggedEdit) → n ≡ length xs → take n (xs ++ ys) ≡ xs
-whole_slice n xs ys same = ap (λ m. take m (xs ++ ys)) same ∙ take-append_seam xs ys

@@ -1,14 +1,13 @@
 -- That the undos of a cascade may all be made, one after another, and what they leave.
-use Rattle.std.proofs.Common.{◌≡◌, ℕ, zero, suc, ◌-◌, ◌<◌, Bool, true, false, true≢false, List, [], ◌∷◌, Option, Some, None, Ok, length, take}
+use Rattle.std.proofs.Common.{◌≡◌, ℕ, zero, suc, ◌-◌, ◌<◌, List, [], ◌∷◌, Option, Some, None, Ok, length, take}
 use Rattle.std.proofs.Common.{slice_get, slice_set, if◌then◌else◌, inl, inr, arith, refl, sym, ap, subst, ◌∙◌}
 use Rattle.std.specs.FinMap.{get}
-use Rattle.std.proofs.lemmas.List.{length-map, take_all}
+use Rattle.std.proofs.lemmas.List.{length-map}
 use Rattle.selective_undo.specs.Edit.{Trace, step}
 use Rattle.selective_undo.specs.History.{Entry, done, undone, undo, traces, traces_from, replay, state_before, InForce, IsLegal, Dependent, itself, CanUndoAll}
 use Rattle.selective_undo.specs.History.{Has, Falls}
 use Rattle.selective_undo.proofs.Dependents.{dependents_law, gone, others_stay}
 use Rattle.selective_undo.proofs.Inverses.{set_back_law}
-use Rattle.selective_undo.proofs.Log.{cases_lt}
 use Rattle.selective_undo.proofs.Undo.{undo_law, still}
 use Rattle.wb_cells.specs.Cells.{Cells}
 use Rattle.wb_cells.specs.Schema.{workbook}
@@ -130,10 +129,3 @@ module _ (es : List Numbered) (legal : IsLegal (meant es)) where
 pub some_listed : (es : List (Entry workbook)) (k : ℕ) (ns : List ℕ) → DependentsReply es k (Ok ns) → 0 < length ns
 some_listed es k [] (there, (falls, set)) = absurd ((set (suc k)).1 itself)
 some_listed es k (n ∷ ns) due = omega arith
-
-pub whole_reply : (es : List (Entry workbook)) (k : ℕ) (all ns : List ℕ) (i : ℕ) (wanted : Bool) → ns ≡ take i all → (i < length all → wanted ≡ true) →
-    DependentsReply es k (Ok all) → wanted ≡ false → DependentsReply es k (Ok ns)
-whole_reply es k all ns i wanted is short due off = elim (cases_lt i (length all)) [
-  | inl less ↦ absurd (true≢false (sym (short less) ∙ off))
-  | inr no_less ↦ subst (λ (ms : List ℕ). DependentsReply es k (Ok ms)) (sym (is ∙ take_all i all no_less)) due
-]

@@ -8,16 +8,12 @@ use Rattle.wb_cells.specs.declared.cells.value.Value.TheVariants.{Number}
 use Rattle.wb_cells.specs.declared.changes.row.IndexedRow.TheVariants.{Elements}
 use Rattle.wb_cells.specs.Cells.{Name, Changes}
 use Rattle.wb_cells.specs.Reads.{patterns_of}
-use Rattle.wb_cells.specs.Runs.{packed_changes, rectangle_entries, numbered_entries}
+use Rattle.wb_cells.specs.Runs.{packed_changes, rectangle_entries}
 use Rattle.wb_cells.specs.Shapes.{Range}
 
 -- the elements of an array at the indices of a rectangle, in order, as the changes that clear them
 abbrev pub filled_cells : Name → List Range → Changes
 filled_cells a on = packed_changes (Elements a) (rectangle_entries on None)
-
--- the changes that set the elements of an array at the indices of a rectangle to numbers, the first to the first and so on
-abbrev pub numbered_cells : Name → List Range → List ℤ → Changes
-numbered_cells a on ns = packed_changes (Elements a) (numbered_entries on ns)
 
 -- what is read where a look at an array comes before those at cells
 abbrev pub array_reads : Name → Changes → List Pattern

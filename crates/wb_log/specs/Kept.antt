@@ -50,10 +50,6 @@ log es = map logged es
 abbrev pub Shows : List kept.LoggedEdit → Cells → Type 0
 Shows es s = IsKept {w = workbook} s (log es)
 
--- the entries show some cells
-abbrev pub IsShown : List kept.LoggedEdit → Type 0
-IsShown es = (s : Cells) × Shows es s
-
 abbrev pub numbered : kept.LoggedEdit → Numbered
 numbered x = record { edit = x.edit; in_force = is_some x.kept }
 

@@ -4,13 +4,13 @@ use Rattle.std.specs.Prelude.{get_or}
 use Rattle.std.proofs.lemmas.List.{drop_more}
 use Rattle.std.specs.Str.{IsUtf8, is_utf8}
 use Rattle.std.proofs.lemmas.Str.{IsUtf8-from_is_utf8, is_utf8-from_IsUtf8}
-use Rattle.serde_json.specs.Data.{Data, null, boolean, number, string, array, object, Members}
+use Rattle.serde_json.specs.Data.{Data, null, boolean, number, string, array, object}
 use Rattle.serde_json.specs.Find.{get, get_member, as_object, as_str}
 use Rattle.serde_json.specs.Read.{read}
 use Rattle.serde_json.specs.View.{view, items_view}
 use Rattle.serde_json.specs.declared.value.Value.{Value}
 use Rattle.wb_requests.specs.Fields.{member_count, field_count}
-use Rattle.wb_requests.specs.Explained.{Explanation, is_json, is_object, of_whole, members_in, op_named, data_explained, json_explained, explained}
+use Rattle.wb_requests.specs.Explained.{Explanation, is_json, of_whole, members_in, op_named, data_explained, json_explained, explained}
 use Rattle.wb_requests.specs.Explained.{least_of, command_named, command_explained, at_place, commands_explained}
 
 pub got : (k : List ℕ) (d : Data) → get k d ≡ get_member k (members_in d)
@@ -29,15 +29,6 @@ counted_in (number n) = refl
 counted_in (string s) = refl
 counted_in (array ds) = refl
 
--- the members of an object, by the map that keeps them
-pub members_are : (d : Data) (ms : Members) → Some ms ≡ as_object d → members_in d ≡ ms
-members_are (object ns) ms e = let f : ms ≡ ns = cc in sym f
-members_are null ms e = cc
-members_are (boolean b) ms e = cc
-members_are (number n) ms e = cc
-members_are (string s) ms e = cc
-members_are (array ds) ms e = cc
-
 -- ---- a JSON value
 
 pub object_told : (d : Data) → is_some (as_object d) ≡ true →
@@ -54,14 +45,6 @@ pub named_told : {E : Type 0} (d : Data) (op : List ℕ) (r : Result (Option Exp
     IfOk r (λ x. x ≡ data_explained d)
 named_told d op (Ok x) e f h = h ∙ ap (op_named (members_in d)) f ∙ sym (object_told d e)
 named_told d op (Err why) e f h = tt
-
-pub other_told : (d : Data) → is_some (as_object d) ≡ false → data_explained d ≡ Some (of_whole is_object)
-other_told (object ms) e = cc
-other_told null e = refl
-other_told (boolean b) e = refl
-other_told (number n) e = refl
-other_told (string s) e = refl
-other_told (array ds) e = refl
 
 -- ---- a command within a transaction
 

@@ -36,9 +36,6 @@ none_some x e = cc
 
 -- ---- numbers
 
-number_same : (z y : ℤ) → Some (values.Number z) ≡ Some (values.Number y) → z ≡ y
-number_same z y e = cc
-
 number_within : (v : Option Value) → IsNumber v → IsImplicit (number_in v)
 number_within v h = subst (λ o. IsImplicit (number_in o)) (sym h.1) (fits_within h.0 h.2)
 

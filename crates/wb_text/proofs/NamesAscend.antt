@@ -1,7 +1,5 @@
 -- The lines of a workbook stand in the order of their names, each name once.
-use Rattle.std.proofs.Common.{◌≡◌, ℕ, ◌+◌, ◌<◌, Bool, true, false, ◌&&◌, T, List, [], ◌∷◌, map, Option, Some, None, slice_get, refl, ap, subst, Ordering, arith}
-use Rattle.std.proofs.lemmas.Map.Keys.{Less-from_sorted}
-use Rattle.std.proofs.lemmas.Option.{slice_get_within, get_or_from_slice_get}
+use Rattle.std.proofs.Common.{◌≡◌, Bool, true, false, ◌&&◌, T, List, [], ◌∷◌, map, Option, Some, None, refl, subst, Ordering}
 use Rattle.std.specs.Cmp.Lexicographic.{slice_cmp}
 use Rattle.std.specs.FinMap.{entries, entries_sorted, is_sorted, keys}
 use Rattle.std.specs.FinMap.Entries.{below_all}
@@ -62,18 +60,6 @@ module _ {K J : Type 0} (R : K → K → Ordering) (S : J → J → Ordering) (h
   filtered [] s = tt
   filtered (k ∷ ks) s = sorted_more (h k) (filter_map h ks) (λ a e. above k a e ks s.0) (filtered ks s.1)
 
--- ---- items by what they are ordered by
-
-module _ {X J : Type 0} (S : J → J → Ordering) (f : X → J) where
-  mapped_above : (x : X) (xs : List X) → AllByRecursion (λ y. S (f x) (f y) ≡ Less) xs → AllByRecursion (λ b. S (f x) b ≡ Less) (map f xs)
-  mapped_above x [] h = tt
-  mapped_above x (y ∷ xs) h = (h.0, mapped_above x xs h.1)
-
-  mapped : (xs : List X) → IsStrictlySortedBy (λ x y. S (f x) (f y)) xs → IsStrictlySortedBy S (map f xs)
-  unfolding IsStrictlySortedBy
-  mapped [] h = tt
-  mapped (x ∷ xs) h = (mapped_above x xs h.0, mapped xs h.1)
-
 -- ---- the names
 
 abbrev name_cmp : Name → Name → Ordering
@@ -97,21 +83,3 @@ line_less s m n a b e f less = let first = named s m a e in let second = named s
 -- each line has a name below those of the lines after it
 pub lines_ascend : (s : Cells) → IsStrictlySortedBy (λ a b. slice_cmp nat_cmp (name_of a) (name_of b)) (said s)
 lines_ascend s = filtered name_cmp (λ a b. name_cmp (name_of a) (name_of b)) (said_of s) (line_less s) (objects s) (objects_ascend s)
-
--- the names of the lines ascend
-pub names_ascend : (s : Cells) → IsStrictlySortedBy (slice_cmp nat_cmp) (map name_of (said s))
-names_ascend s = mapped name_cmp name_of (said s) (lines_ascend s)
-
--- of two lines, the one that stands before the other has the lesser name
-pub earlier_is_less : (s : Cells) (p q : ℕ) (a b : Line) → p < q → slice_get (said s) p ≡ Some a → slice_get (said s) q ≡ Some b →
-    slice_cmp nat_cmp (name_of a) (name_of b) ≡ Less
-earlier_is_less s p q a b before e f =
-    let within = slice_get_within (said s) q b f in
-    let first = get_or_from_slice_get (said s) p a a e in
-    let second = get_or_from_slice_get (said s) q b a f in
-    rw (← ap name_of first, ← ap name_of second) (Less-from_sorted (λ x y. name_cmp (name_of x) (name_of y)) (said s) p q a (lines_ascend s) before within)
-
--- and so have two neighbours
-pub neighbours_ascend : (s : Cells) (p : ℕ) (a b : Line) → slice_get (said s) p ≡ Some a → slice_get (said s) (p + 1) ≡ Some b →
-    slice_cmp nat_cmp (name_of a) (name_of b) ≡ Less
-neighbours_ascend s p a b e f = earlier_is_less s p (p + 1) a b (omega arith) e f

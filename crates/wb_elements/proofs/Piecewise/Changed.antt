@@ -1,24 +1,20 @@
 -- Elements after changes.
 use Rattle.std.proofs.Common.{◌≡◌, ℕ, ◌+◌, ◌<◌, ℤ, Bool, true, false, cond, List, [], ◌∷◌, ◌++◌, length, take, get_or, Option, Some, None, refl, sym, ap}
-use Rattle.std.proofs.Common.{subst, ◌∙◌, ◌⊎◌, inl, inr}
+use Rattle.std.proofs.Common.{◌∙◌, ◌⊎◌, inl, inr}
 use Rattle.std.specs.declared.cmp.Ordering.{Ordering}
-use Rattle.std.specs.declared.cmp.Ordering.TheVariants.{Less, Equal, Greater}
-use Rattle.std.specs.Ordering.{is_eq, match_ordering}
-use Rattle.std.specs.Cmp.{eq_by_cmp_equiv, Equal-is}
+use Rattle.std.specs.declared.cmp.Ordering.TheVariants.{Less}
+use Rattle.std.specs.Cmp.{Equal-is}
 use Rattle.std.specs.List.{AllByRecursion}
 use Rattle.std.specs.List.Sorted.{IsStrictlySortedBy}
-use Rattle.std.specs.Map.{keys_of, remove_entry}
+use Rattle.std.specs.Map.{keys_of}
 use Rattle.std.specs.Option.{option_or}
-use Rattle.std.specs.BTreeMap.{insert_entry}
 use Rattle.std.proofs.lemmas.List.{take_more}
 use Rattle.selective_undo.proofs.Log.{append-map}
 use Rattle.wb_arrays.specs.Elements.{value_at}
 use Rattle.wb_cells.specs.declared.values.index.Index.{Index}
-use Rattle.wb_cells.specs.contracts.values.index.IndexOrd.TheImpl.Laws as index_laws
 use Rattle.wb_cells.specs.Cells.{index_cmp, index_cmp-IsAntisymmetric, is_same_index}
-use Rattle.wb_elements.specs.Piecewise.Indexed.{indexed, AllOf}
+use Rattle.wb_elements.specs.Piecewise.Indexed.{indexed}
 use Rattle.wb_elements.specs.Piecewise.Changed.{changed_at, all_set}
-use Rattle.wb_elements.proofs.Piecewise.Indexed.{value_at-indexed}
 
 pub one_index : (i j : Index) → is_same_index i j ≡ true → i ≡ j
 one_index i j e = index_cmp-IsAntisymmetric i j ((Equal-is _).0 e)
@@ -33,49 +29,6 @@ module _ {I : Type 0} (cmp : I → I → Ordering) (f : I → Index) (alike : (x
           (cond t (Some e.1) (value_at index_cmp (indexed f es) i) ≡ None) ⊎ ((k : I) × (f k ≡ i))
       by true t rest = inr (e.0, sym (one_index i (f e.0) t))
       by false t rest = rest
-
-  module _ (es fs : List (I × ℤ)) (key : I) (w : Option ℤ) (is : (q : I) → value_at cmp fs q ≡ cond (is_eq (cmp key q)) w (value_at cmp es q)) where
-    at_key : (k : I) → value_at index_cmp (indexed f fs) (f k) ≡ cond (is_same_index (f k) (f key)) w (value_at index_cmp (indexed f es) (f k))
-    at_key k =
-        let turned : is_eq (cmp key k) ≡ is_same_index (f k) (f key) = sym (ap is_eq (alike key k))
-        ∙ (eq_by_cmp_equiv index_laws.total-law).symm (f key) (f k) in
-        value_at-indexed cmp f (λ i. true) alike fs k ∙ is k
-        ∙ ap (λ (t : Bool). cond t w (value_at cmp es k)) turned
-        ∙ ap (cond (is_same_index (f k) (f key)) w) (sym (value_at-indexed cmp f (λ i. true) alike es k))
-
-    at_index : (k : I) (i : Index) → f k ≡ i → value_at index_cmp (indexed f fs) i ≡ cond (is_same_index i (f key)) w (value_at index_cmp (indexed f es) i)
-    at_index k i e = subst (λ (j : Index). value_at index_cmp (indexed f fs) j ≡ cond (is_same_index j (f key)) w (value_at index_cmp (indexed f es) j)) e
-        (at_key k)
-
-    pub changed-one : (i : Index) → value_at index_cmp (indexed f fs) i ≡ cond (is_same_index i (f key)) w (value_at index_cmp (indexed f es) i)
-    changed-one i = by (as_key fs i) (as_key es i) (is_same_index i (f key)) refl
-      where
-        by : ((value_at index_cmp (indexed f fs) i ≡ None) ⊎ ((k : I) × (f k ≡ i))) →
-            ((value_at index_cmp (indexed f es) i ≡ None) ⊎ ((k : I) × (f k ≡ i))) → (t : Bool) → is_same_index i (f key) ≡ t →
-            value_at index_cmp (indexed f fs) i ≡ cond (is_same_index i (f key)) w (value_at index_cmp (indexed f es) i)
-        by (inr k) o t e = at_index k.0 i k.1
-        by (inl n) (inr k) t e = at_index k.0 i k.1
-        by (inl n) (inl m) true e = at_index key i (sym (one_index i (f key) e))
-        by (inl n) (inl m) false e = n ∙ sym m ∙ ap (λ (t : Bool). cond t w (value_at index_cmp (indexed f es) i)) (sym e)
-
-  module _ (is_of : Index → Bool) where
-    pub all_of-insert : (es : List (I × ℤ)) (k : I) (v : ℤ) → AllOf f is_of es → is_of (f k) ≡ true → AllOf f is_of (insert_entry cmp es k v)
-    all_of-insert [] k v all here = (here, tt)
-    all_of-insert (e ∷ es) k v all here = by (cmp k e.0) (all_of-insert es k v all.1 here)
-      where
-        by : (o : Ordering) → AllOf f is_of (insert_entry cmp es k v) →
-            AllOf f is_of (match_ordering o ((k, v) ∷ (e ∷ es)) ((e.0, v) ∷ es) (e ∷ insert_entry cmp es k v))
-        by Less rest = (here, all)
-        by Equal rest = all
-        by Greater rest = (all.0, rest)
-
-    pub all_of-remove : (test : I → Bool) (es : List (I × ℤ)) → AllOf f is_of es → AllOf f is_of (remove_entry test es)
-    all_of-remove test [] all = tt
-    all_of-remove test (e ∷ es) all = by (test e.0) (all_of-remove test es all.1)
-      where
-        by : (t : Bool) → AllOf f is_of (remove_entry test es) → AllOf f is_of (cond t es (e ∷ remove_entry test es))
-        by true rest = all.1
-        by false rest = (all.0, rest)
 
 -- ---- one change more
 

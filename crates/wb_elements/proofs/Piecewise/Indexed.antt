@@ -13,11 +13,6 @@ use Rattle.wb_cells.specs.declared.values.index.Index.{Index}
 use Rattle.wb_cells.specs.Cells.{index_cmp, index_cmp-IsAntisymmetric}
 use Rattle.wb_elements.specs.Piecewise.Indexed.{indexed, AllOf}
 
-is_equal : (o : Ordering) → is_eq o ≡ true → o ≡ Equal
-is_equal Equal e = refl
-is_equal Less e = cc
-is_equal Greater e = cc
-
 module _ {I : Type 0} (cmp : I → I → Ordering) (f : I → Index) (is_of : Index → Bool) where
   pub value_at-indexed : ((x y : I) → index_cmp (f x) (f y) ≡ cmp x y) → (es : List (I × ℤ)) (k : I) →
       value_at index_cmp (indexed f es) (f k) ≡ value_at cmp es k

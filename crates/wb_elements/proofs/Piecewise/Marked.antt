@@ -47,16 +47,6 @@ module _ {I : Type 0} (f : I → Index) where
       by true e rest = inr (m.0, sym (one_index i (f m.0) e))
       by false e rest = rest
 
-  -- no mark is at an index of another form
-  pub marked-none : (is_of : Index → Bool) (ms : List (I × Option ℤ)) (o : Option ℤ) (i : Index) → AllMarked f is_of ms → is_of i ≡ false →
-      changed_at (as_changes f ms) o i ≡ o
-  marked-none is_of [] o i all apart = refl
-  marked-none is_of (m ∷ ms) o i all apart = by (is_same_index i (f m.0)) refl (marked-none is_of ms o i all.1 apart)
-    where
-      by : (t : Bool) → is_same_index i (f m.0) ≡ t → changed_at (as_changes f ms) o i ≡ o → changed_at (as_changes f ms) (cond t m.1 o) i ≡ o
-      by true e rest = absurd (true≢false (sym all.0 ∙ ap is_of (sym (one_index i (f m.0) e)) ∙ apart))
-      by false e rest = rest
-
 -- ---- one number more
 
 pub number_more : {I : Type 0} → (es : List (I × ℤ)) (k : I) (w : Option ℤ) (rest : List (I × ℤ)) →

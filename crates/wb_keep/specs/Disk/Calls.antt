@@ -1,5 +1,5 @@
 -- The calls that a file has had, the newest first, and what a crash may leave after them.
-use Rattle.std.specs.Prelude.{◌≡◌, ◌⊎◌, ◌≤◌, ℕ, zero, suc, ◌+◌, ◌==◌, Bool, true, false, ◌&&◌, ◌||◌, if◌then◌else◌, List, [], ◌∷◌, ◌++◌, length, take, drop, slice_index}
+use Rattle.std.specs.Prelude.{◌≡◌, ◌⊎◌, ◌≤◌, ℕ, zero, suc, ◌+◌, ◌==◌, Bool, true, false, ◌&&◌, ◌||◌, if◌then◌else◌, List, [], ◌∷◌, ◌++◌, length, take, drop}
 use Rattle.wb_keep.specs.Disk.Device.{Torn, Cut, Only}
 
 -- which call, where, whether it was done, and its bytes
@@ -34,9 +34,6 @@ named done = (6, 0, done, [])
 -- the folder was synced, in which the name is
 abbrev pub folder_synced : Bool → Call
 folder_synced done = (7, 0, done, [])
-
-abbrev pub call_of : List ℕ → List ℕ → Call
-call_of numbers bytes = (slice_index numbers 0, slice_index numbers 1, slice_index numbers 2 == 1, bytes)
 
 -- old with these bytes at this offset
 abbrev pub laid : List ℕ → ℕ → List ℕ → List ℕ

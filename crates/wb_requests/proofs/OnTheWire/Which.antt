@@ -39,9 +39,6 @@ contains_has (l ∷ ks) k c = by (λ more. contains_has ks k more) (contains_con
     by rest (inl same) = ap (λ (b : Bool). if b then true else has ks k) (subst (λ m. bytes_eq l m ≡ true) (sym same) (same_key l))
     by rest (inr more) = later (bytes_eq l k) (has ks k) (rest more)
 
-pair_op : (a c : List ℕ) (b d : List (List ℕ)) → ◌≡◌ {A = List ℕ × List (List ℕ)} (a, b) (c, d) → (a ≡ c) × (b ≡ d)
-pair_op a c b d e = (ap (λ x. x.0) e, ap (λ x. x.1) e)
-
 pub form_contained : (op : List ℕ) (keys : List (List ℕ)) (xs : List (List ℕ × List (List ℕ))) → Contains xs (op, keys) → Contains (forms_of op xs) keys
 form_contained op keys [] c = absurd (let l = c.1 in omega (arith, l))
 form_contained op keys (x ∷ xs) c = elim (bytes_eq x.0 op) as

@@ -84,9 +84,6 @@ AreProperCommands (c ∷ cs) = AreProperBy (λ ds. ⊥) (command_table c) × Are
 abbrev pub AreProperEdits : List Command → Type 0
 AreProperEdits cs = AreProperCommands cs × AreSeveral cs
 
-abbrev pub IsProper : Meaning → Type 0
-IsProper x = IsProperBy AreProperEdits x
-
 abbrev pub AreProper : Fields → Type 0
 AreProper fs = AreProperBy AreProperEdits fs
 
