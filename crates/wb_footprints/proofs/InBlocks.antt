@@ -18,11 +18,10 @@ use Rattle.wb_sets.specs.Places.{IsGap}
 use Rattle.wb_sets.proofs.Ascending.{gap_by}
 use Rattle.wb_cells.specs.declared.values.index.Index.{Index}
 use Rattle.wb_footprints.specs.declared.marks.blocks.MarkBlock.{MarkBlock}
-use Rattle.wb_footprints.specs.declared.marks.numbers.Numbers.{Numbers}
 use Rattle.wb_footprints.specs.Relation.{Sets}
 use Rattle.wb_footprints.specs.Points.{Coordinates, point_cmp, in_points}
 use Rattle.wb_footprints.specs.Indices.{in_indices}
-use Rattle.wb_footprints.specs.Numbers.{numbered}
+use Rattle.wb_footprints.specs.Numbers.{Numbers, numbered}
 use Rattle.wb_footprints.specs.Blocks.{in_blocks}
 
 pub points_total : IsTotalOrder point_cmp

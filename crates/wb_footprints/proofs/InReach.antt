@@ -16,7 +16,7 @@ use Rattle.std.proofs.lemmas.List.Folds.{Any-from_list_any}
 use Rattle.std.proofs.lemmas.Map.Views.{range_contains-from_IsInRange}
 use Rattle.wb_footprints.specs.declared.marks.blocks.Blocks.{Blocks}
 use Rattle.wb_footprints.specs.declared.marks.key_marks.Marks.{Marks}
-use Rattle.wb_footprints.specs.declared.marks.numbers.Numbers.{Numbers}
+use Rattle.wb_footprints.specs.Numbers.{Numbers}
 use Rattle.wb_footprints.specs.Blocks.{in_blocks}
 use Rattle.wb_footprints.specs.Groups.{in_groups, is_kept, is_apart, AreAll}
 use Rattle.wb_footprints.specs.Keys.{index_key}

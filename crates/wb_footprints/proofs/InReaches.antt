@@ -3,7 +3,7 @@ use Rattle.std.proofs.Common.{◌≡◌, ℕ, ◌+◌, ◌<◌, ◌≤◌, Bool,
 use Rattle.std.proofs.Common.{List, [], ◌∷◌, ◌++◌, length, take, set, get_or, suc, zero, refl, sym, ap, subst, ◌∙◌, arith}
 use Rattle.std.specs.List.{list_any}
 use Rattle.std.proofs.lemmas.List.Folds.{list_any-append}
-use Rattle.wb_footprints.specs.declared.marks.numbers.Numbers.{Numbers}
+use Rattle.wb_footprints.specs.Numbers.{Numbers}
 use Rattle.wb_footprints.specs.declared.marks.reach_marks.ReachMarks.{ReachMarks}
 use Rattle.wb_footprints.specs.Groups.{in_groups}
 use Rattle.wb_cells.specs.declared.values.index.Index.{Index}

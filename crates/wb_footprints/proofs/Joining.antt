@@ -15,8 +15,7 @@ use Rattle.wb_cells.specs.declared.cells.cell.Cell.{Cell}
 use Rattle.wb_cells.specs.declared.cells.value.Value.{Value}
 use Rattle.wb_cells.specs.declared.changes.run.ChangeRun.{ChangeRun}
 use Rattle.wb_cells.specs.Runs.{changes_in, all_changes}
-use Rattle.wb_footprints.specs.declared.marks.numbers.Numbers.{Numbers}
-use Rattle.wb_footprints.specs.Numbers.{numbered}
+use Rattle.wb_footprints.specs.Numbers.{Numbers, numbered}
 use Rattle.wb_footprints.specs.Marks.{pair_cmp}
 use Rattle.wb_footprints.specs.Relation.{IsLeastAfter, JoinedAfter, AreAllAfter}
 use Rattle.wb_footprints.proofs.Added.{added_here, added_stays, added_from}

@@ -14,11 +14,13 @@ pub mod InParts
 pub mod InRuns
 pub mod Gone
 pub mod ReadPlaces
+pub mod ReadMarks
 pub mod AtPoints
 pub mod AtMarks
 pub mod Rows
 pub mod Singles
 pub mod Added
+pub mod InWords
 pub mod Joining
 pub mod OneFamily
 pub mod SortedPoints

@@ -93,7 +93,7 @@ same_one (c.Element m i) (c.Use n j) = simp (and_false, and_true, or_false, tie_
 same_one (c.Element m i) (c.Implicit n) = simp (and_false, and_true, or_false, tie_both)
 same_one (c.Element m i) (c.Element n j) = simp (and_false, and_true, or_false, tie_both)
 
-no_family : (x y : Cell) → is_family (own x) y ≡ false
+pub no_family : (x y : Cell) → is_family (own x) y ≡ false
 no_family (c.Object m) (c.Object n) = refl
 no_family (c.Object m) (c.Shape n) = refl
 no_family (c.Object m) (c.In n j) = refl

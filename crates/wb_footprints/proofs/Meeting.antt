@@ -26,14 +26,14 @@ use Rattle.wb_footprints.specs.declared.places.place.Place.{Place}
 use Rattle.wb_footprints.specs.declared.places.place.Place.TheVariants.{Objects, Of}
 use Rattle.wb_footprints.specs.declared.foot_index.FootIndex.{FootIndex}
 use Rattle.wb_footprints.specs.Relation.{IsLeastAfter}
-use Rattle.wb_footprints.specs.declared.places.marking.Marking.TheVariants.{Families}
+use Rattle.wb_footprints.specs.declared.places.marking.Marking.TheVariants.{Own, Families}
 use Rattle.wb_footprints.specs.Parts.{is_same_part}
 use Rattle.wb_footprints.specs.Slots.{slot_cmp}
 use Rattle.wb_footprints.specs.Places.{place_marked}
 use Rattle.wb_footprints.specs.Footprints.{IsIndexOf, any_met}
 use Rattle.wb_footprints.specs.Places.{own, family, place_of, is_same_place, is_family}
-use Rattle.wb_footprints.specs.Footprints.{at_cell, touched_at, read_at, touched_by, read_by, met_by, touched_under, touched_one_of, footprint}
-use Rattle.wb_footprints.proofs.Matching.{named}
+use Rattle.wb_footprints.specs.Footprints.{at_cell, marked_at, touched_at, read_at, own_touched_by, touched_by, read_by, met_by, touched_under, touched_one_of, footprint}
+use Rattle.wb_footprints.proofs.Matching.{named, no_family}
 use Rattle.wb_footprints.proofs.Setting.{more_any}
 
 four : (a b c d : Bool) → ((a || b) || (c || d)) ≡ ((a || c) || (b || d))
@@ -143,18 +143,67 @@ met_at None c = sym (none_family (family c))
 met_at (Some f) c = rw (touched_named (p.One c) f.touched, covers_at c f.reads)
     (or_assoc (touched_at f.touched (own c)) (read_at f.reads (own c)) (at_family (read_at f.reads) (family c)))
 
+or_nothing : (a : Bool) → a || false ≡ a
+or_nothing true = refl
+or_nothing false = refl
+
+or_more : (a b : Bool) → a || false ≡ true → a || b ≡ true
+or_more true b e = refl
+or_more false b e = cc
+
+any_more : {X : Type 0} (f g : X → Bool) → ((x : X) → f x ≡ true → g x ≡ true) → (xs : List X) → list_any f xs ≡ true → list_any g xs ≡ true
+any_more f g h [] e = e
+any_more f g h (x ∷ xs) e = more (f x) (g x) (h x) (any_more f g h xs) e
+  where
+    more : (a b : Bool) → (a ≡ true → b ≡ true) → (list_any f xs ≡ true → list_any g xs ≡ true) → a || list_any f xs ≡ true → b || list_any g xs ≡ true
+    more true b k m e = ap (λ c. c || list_any g xs) (k refl)
+    more false true k m e = refl
+    more false false k m e = m e
+
+-- a cell that was touched by itself was touched
+own_touches : (o : Option (Footprint workbook)) (q : Place) → own_touched_by o q ≡ true → touched_by o q ≡ true
+own_touches None q e = e
+own_touches (Some f) q e = any_more (λ x. at_cell Own x.cell q) (λ x. at_cell Families x.cell q)
+    (λ x there. or_more (is_same_place (own x.cell) q) (at_family (λ f. is_same_place f q) (family x.cell)) there) f.touched e
+
+own_families : (xs : Changes) (o : Option Place) → at_family (marked_at Own xs) o ≡ list_any (λ x. at_family (is_same_place (own x.cell)) o) xs
+own_families xs None = sym (any_none xs)
+own_families xs (Some f) = any_like (λ x. at_cell Own x.cell f) (λ x. is_same_place (own x.cell) f) xs (λ x. or_nothing (is_same_place (own x.cell) f))
+
+-- no cell stands at the place of a family
+own_apart : (o : Option (Footprint workbook)) (c : Cell) → at_family (own_touched_by o) (family c) ≡ false
+own_apart None c = none_family (family c)
+own_apart (Some f) c = own_families f.touched (family c) ∙ any_like (λ x. is_family (own x.cell) c) (λ x. false) f.touched (λ x. no_family x.cell c)
+    ∙ any_none f.touched
+
+met_or : (t r m w : Bool) → (m ≡ true → r ≡ true) → (r ≡ true → m || w ≡ true) → (w ≡ true → t ≡ true) → t || r ≡ t || m
+met_or true r m w s k u = refl
+met_or false true true w s k u = refl
+met_or false false false w s k u = refl
+met_or false true false w s k u = sym (u (k refl))
+met_or false false true w s k u = s refl
+
+read_or : (r m w : Bool) → (m ≡ true → r ≡ true) → (r ≡ true → m || w ≡ true) → w ≡ false → r ≡ m
+read_or true true w s k e = refl
+read_or false false w s k e = refl
+read_or true false w s k e = sym (k refl) ∙ e
+read_or false true w s k e = s refl
+
 module _ (idx : FootIndex) (footprints : ℕ → Option (Footprint workbook)) (h : IsIndexOf idx footprints) (n : ℕ) where
-  marked_family : (o : Option Place) → at_family (read_by (footprints n)) o ≡ at_family (λ q. place_marked idx.read q n) o
-  marked_family None = refl
-  marked_family (Some f) = sym (h.read f n)
+  marked_family : (o : Option Place) → at_family (own_touched_by (footprints n)) o ≡ false →
+      at_family (read_by (footprints n)) o ≡ at_family (λ q. place_marked idx.read q n) o
+  marked_family None out = refl
+  marked_family (Some f) out = read_or (read_by (footprints n) f) (place_marked idx.read f n) (own_touched_by (footprints n) f) (h.read.sound f n)
+      (h.read.told f n) out
+
+  marked_own : (q : Place) → touched_by (footprints n) q || read_by (footprints n) q ≡ place_marked idx.touched q n || place_marked idx.read q n
+  marked_own q = met_or (touched_by (footprints n) q) (read_by (footprints n) q) (place_marked idx.read q n) (own_touched_by (footprints n) q)
+      (h.read.sound q n) (h.read.told q n) (own_touches (footprints n) q) ∙ ap (λ b. b || place_marked idx.read q n) (sym (h.touched q n))
 
   pub met_marked : (c : Cell) (q : Place) (o : Option Place) → q ≡ own c → o ≡ family c →
       met_by (footprints n) c ≡ ((place_marked idx.touched q n || place_marked idx.read q n) || at_family (λ f. place_marked idx.read f n) o)
-  met_marked c q o e g = met_at (footprints n) c ∙ rw (← e, ← g, h.touched q n, h.read q n, marked_family o)
-
-  or_nothing : (a : Bool) → a || false ≡ a
-  or_nothing true = refl
-  or_nothing false = refl
+  met_marked c q o e g = met_at (footprints n) c
+      ∙ rw (← e, ← g, marked_own q, marked_family o (ap (at_family (own_touched_by (footprints n))) g ∙ own_apart (footprints n) c))
 
   pub met_alone : (c : Cell) (q : Place) → q ≡ own c → None ≡ family c → met_by (footprints n) c ≡ (place_marked idx.touched q n || place_marked idx.read q n)
   met_alone c q e g = met_marked c q None e g ∙ or_nothing (place_marked idx.touched q n || place_marked idx.read q n)

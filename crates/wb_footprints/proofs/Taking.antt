@@ -31,6 +31,14 @@ on_err (Err x) e h = h
 pub sets_stays : (o n : Place → ℕ → Bool) (h : Place → Bool) (number : ℕ) (b : Bool) → Sets o n h number b → Stays o n h number
 sets_stays o n h number b p = record { at = λ q k out. p.at q k ∙ unless (h q && (number == k)) b (o q k) out }
 
+pub stays_more : (o n : Place → ℕ → Bool) (g h : Place → Bool) (number : ℕ) → ((q : Place) → g q ≡ true → h q ≡ true) → Stays o n g number → Stays o n h number
+stays_more o n g h number more p = record { at = λ q k out. p.at q k (less (g q) (h q) (number == k) (more q) out) }
+  where
+    less : (a b c : Bool) → (a ≡ true → b ≡ true) → b && c ≡ false → a && c ≡ false
+    less true true c f out = out
+    less true false c f out = let e = f refl in cc
+    less false b c f out = refl
+
 module _ (by : Option (Footprint workbook) → Place → Bool) (nothing : (q : Place) → by None q ≡ false) (footprints : ℕ → Option (Footprint workbook))
     (here : Place → Bool) (number : ℕ) where
   module _ (old new : Place → ℕ → Bool) (f : Footprint workbook) (its : (q : Place) → by (Some f) q ≡ here q) (had : footprints number ≡ Some f)

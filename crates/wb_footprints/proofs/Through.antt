@@ -12,10 +12,9 @@ use Rattle.wb_cells.specs.Runs.{cell_of}
 use Rattle.wb_cells.specs.declared.changes.row.IndexedRow.{IndexedRow}
 use Rattle.wb_footprints.specs.declared.foot_index.FootIndex.{FootIndex}
 use Rattle.wb_footprints.specs.declared.marks.key_marks.Marks.{Marks}
-use Rattle.wb_footprints.specs.declared.marks.numbers.Numbers.{Numbers}
 use Rattle.wb_footprints.specs.declared.places.runs.Run.{Run}
 use Rattle.wb_footprints.specs.declared.questions.swept.SweptCells.{SweptCells}
-use Rattle.wb_footprints.specs.Numbers.{numbered}
+use Rattle.wb_footprints.specs.Numbers.{Numbers, numbered}
 use Rattle.wb_footprints.specs.Marks.{marked}
 use Rattle.wb_cells.specs.declared.values.index.Index.{Index}
 use Rattle.wb_footprints.specs.Footprints.{marked_own, marked_family}

@@ -1,10 +1,12 @@
 -- An index is of footprints, one for some of the numbers: it has a mark at each place where one of them read or touched
 -- something.
-use Rattle.std.specs.Prelude.{◌≡◌, ℕ, Bool, true, false, ◌||◌, ◌==◌, List, map, Option, Some, None, if◌then◌else◌}
+use Rattle.std.specs.Prelude.{◌≡◌, ℕ, Bool, true, false, not, ◌&&◌, ◌||◌, ◌==◌, List, map, Option, Some, None, if◌then◌else◌}
 use Rattle.std.specs.List.{list_any}
+use Rattle.std.specs.Ordering.{eq_by_cmp}
 use Rattle.selective_undo.specs.Log.{Footprint}
 use Rattle.wb_cells.specs.declared.cells.cell.Cell.{Cell}
 use Rattle.wb_cells.specs.declared.cells.pattern.Pattern.{Pattern}
+use Rattle.wb_cells.specs.declared.cells.pattern.Pattern.TheVariants as p
 use Rattle.selective_undo.specs.Changes.{changes}
 use Rattle.selective_undo.specs.Edit.{covers}
 use Rattle.wb_cells.specs.Cells.{Changes, cell_cmp}
@@ -60,6 +62,18 @@ read_at rs q = list_any (λ r. is_same_place (place_of r) q) rs
 abbrev pub IsUnmarked : Marking → IndexedRow → PlaceMarks → ℕ → Type 0
 IsUnmarked m row marks n = (p : Index) (q : Place) → at_cell m (cell_of row p) q ≡ true → place_marked marks q n ≡ false
 
+-- whether a pattern names one cell, and it is this one
+abbrev pub is_one : Pattern → Cell → Bool
+is_one p.Objects c = false
+is_one (p.One x) c = eq_by_cmp cell_cmp x c
+is_one (p.Members d) c = false
+is_one (p.Uses d) c = false
+is_one (p.Elements d) c = false
+
+-- whether one of the patterns is that of a place, and not that of a cell alone
+abbrev pub read_beside : Cell → List Pattern → Place → Bool
+read_beside c rs q = list_any (λ r. is_same_place (place_of r) q && not (is_one r c)) rs
+
 -- whether a footprint, where there is one, touched a place
 abbrev pub touched_by : Option (Footprint workbook) → Place → Bool
 touched_by None q = false
@@ -70,10 +84,21 @@ abbrev pub read_by : Option (Footprint workbook) → Place → Bool
 read_by None q = false
 read_by (Some f) q = read_at f.reads q
 
--- A number is marked at the places that its footprint touched, and at those that it read, and at no others.
+-- whether it touched the cell of a place
+abbrev pub own_touched_by : Option (Footprint workbook) → Place → Bool
+own_touched_by None q = false
+own_touched_by (Some f) q = marked_at Own f.touched q
+
+-- A number is marked at none but the places that its footprint read, and at each of them but perhaps those of cells that it
+-- touched: that it met such a cell is told by what it touched.
+pub record AreReads (marks : PlaceMarks) (footprints : Footprints) : Type 0 where
+  pub sound : (q : Place) (n : ℕ) → place_marked marks q n ≡ true → read_by (footprints n) q ≡ true
+  pub told : (q : Place) (n : ℕ) → read_by (footprints n) q ≡ true → place_marked marks q n || own_touched_by (footprints n) q ≡ true
+
+-- A number is marked at the places that its footprint touched, and at no others, and at those that it read.
 pub record IsIndexOf (index : FootIndex) (footprints : Footprints) : Type 0 where
   pub touched : (q : Place) (n : ℕ) → place_marked index.touched q n ≡ touched_by (footprints n) q
-  pub read : (q : Place) (n : ℕ) → place_marked index.read q n ≡ read_by (footprints n) q
+  pub read : AreReads index.read footprints
 
 -- what was read, and what the touched cells were before
 abbrev pub footprint : List Pattern → Changes → Footprint workbook

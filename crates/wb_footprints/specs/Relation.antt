@@ -1,7 +1,6 @@
 -- Numbers at places, as a test of a place and a number.
 use Rattle.std.specs.Prelude.{◌≡◌, ℕ, ◌<◌, ◌≤◌, Bool, true, false, ◌&&◌, ◌==◌, List, [], ◌∷◌, Option, Some, None, ◌⊎◌, if◌then◌else◌}
-use Rattle.wb_footprints.specs.declared.marks.numbers.Numbers.{Numbers}
-use Rattle.wb_footprints.specs.Numbers.{numbered}
+use Rattle.wb_footprints.specs.Numbers.{Numbers, numbered}
 
 -- The test `new` is `b` at the places that pass and the number, and else as `old`.
 pub record Sets {A : Type 0} (old new : A → ℕ → Bool) (here : A → Bool) (number : ℕ) (b : Bool) : Type 0 where

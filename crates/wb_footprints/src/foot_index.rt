@@ -2,15 +2,17 @@
 
 ghost use Rattle.std.specs.Prelude.{◌≡◌, [], ◌∷◌, ◌++◌, Option, Some, None, OnOk, OnErr};
 ghost use Rattle.wb_cells.specs.declared.cells.value.Value.{Value};
-ghost use Rattle.wb_cells.specs.Reads.{all_read};
+ghost use Rattle.wb_cells.specs.Cells.{Changes};
+ghost use Rattle.wb_cells.specs.Reads.{all_read, patterns_of};
+ghost use Rattle.wb_cells.specs.Runs.{all_changes};
 ghost use Rattle.wb_footprints.specs.Footprints.{Footprints, IsIndexOf, footprint, with_footprint};
 
-use crate::marks::cell_lists::{mark, mark_all, unmark, unmark_all};
+use crate::marks::cell_lists::{mark, mark_all, mark_runs, unmark, unmark_all, unmark_runs};
 use crate::marks::place_marks::PlaceMarks;
-use crate::marks::reading::{mark_reads, read_each, unmark_reads, unread_each};
+use crate::marks::reading::{mark_reads, read_each, read_others, unmark_reads, unread_each};
 use crate::places::marking::Marking;
 use std::alloc::Global;
-use wb_cells::{Cell, Changes, Pattern, ReadRun};
+use wb_cells::{Cell, ChangeRun, Changes, Pattern, ReadRun};
 use wb_range::NoMemory;
 
 /// An index of footprints by the cells that they read and touched. It has no footprint in it: its contracts speak of those that it
@@ -78,7 +80,7 @@ impl FootIndex {
             return Err(NoMemory);
         }
         let read = &mut self.read;
-        if read_each(read, reads, number).is_err() {
+        if read_others(read, reads, cell, number).is_err() {
             unread_each(read, reads, number);
             unmark(&mut self.touched, Marking::Families, cell, number);
             return Err(NoMemory);
@@ -103,5 +105,45 @@ impl FootIndex {
     {
         unmark(&mut self.touched, Marking::Families, cell, number);
         unread_each(&mut self.read, reads, number);
+    }
+
+    /// Adds a footprint at a number that has none, which read the patterns and then the cells of runs, and touched just these cells;
+    /// or nothing where no memory is left.
+    pub fn add_runs(
+        &mut self,
+        number: u64,
+        reads: &[Pattern],
+        runs: &[ChangeRun],
+    ) -> Result<(), NoMemory>
+        ensures ok { OnOk result ((footprints : Footprints) (before : Changes) → IsIndexOf self.old footprints → footprints number ≡ None →
+            patterns_of before ≡ patterns_of (all_changes runs.now) →
+            IsIndexOf self.new (with_footprint footprints number (Some (footprint (reads.now ++ patterns_of before) before)))) }
+        ensures err { OnErr result ((footprints : Footprints) → IsIndexOf self.old footprints → footprints number ≡ None → IsIndexOf self.new footprints) }
+    {
+        if mark_runs(&mut self.touched, Marking::Families, runs, number).is_err() {
+            unmark_runs(&mut self.touched, Marking::Families, runs, number);
+            return Err(NoMemory);
+        }
+        let read = &mut self.read;
+        if read_each(read, reads, number).is_err() {
+            unread_each(read, reads, number);
+            unmark_runs(&mut self.touched, Marking::Families, runs, number);
+            return Err(NoMemory);
+        }
+        Ok(())
+    }
+
+    /// Takes away the footprint of a number that read the patterns and then the cells of runs, and touched just these cells. It takes
+    /// no memory.
+    pub fn take_runs(&mut self, number: u64, reads: &[Pattern], runs: &[ChangeRun])
+        ensures { (footprints : Footprints) (before : Changes) → IsIndexOf self.old footprints →
+            patterns_of before ≡ patterns_of (all_changes runs.now) →
+            footprints number ≡ Some (footprint (reads.now ++ patterns_of before) before) →
+            IsIndexOf self.new (with_footprint footprints number None) }
+    {
+        unmark_runs(&mut self.touched, Marking::Families, runs, number);
+        let read = &mut self.read;
+        unread_each(read, reads, number);
+        unmark_runs(read, Marking::Own, runs, number);
     }
 }

@@ -18,9 +18,11 @@ use Rattle.wb_cells.specs.Reads.{patterns_of, all_read}
 use Rattle.wb_cells.specs.Schema.{workbook}
 use Rattle.wb_footprints.specs.declared.foot_index.FootIndex.{FootIndex}
 use Rattle.wb_footprints.specs.declared.places.place.Place.{Place}
-use Rattle.wb_footprints.specs.Footprints.{Footprints, IsIndexOf, footprint, with_footprint, touched_by, read_by}
+use Rattle.wb_footprints.specs.Footprints.{Footprints, IsIndexOf, footprint, with_footprint, touched_by, own_touched_by, read_by}
 use Rattle.wb_footprints.specs.Places.{place_of, is_same_place}
 use Rattle.wb_log.specs.Sets.{each_read, cells_in, AreCells, NameAlike}
+use Rattle.wb_log.proofs.Covered.{cells_cover}
+use Rattle.wb_log.proofs.Lists.{index_same}
 
 -- ---- one look before each cell
 
@@ -67,15 +69,22 @@ first_alike ps runs h =
 -- an index of the one is one of the other
 pub index_alike : (idx : FootIndex) (f : Footprints) (k : ℕ) (rs qs : List Pattern) (bs : Changes) → NameAlike rs qs →
     IsIndexOf idx (with_footprint f k (Some (footprint qs bs))) → IsIndexOf idx (with_footprint f k (Some (footprint rs bs)))
-index_alike idx f k rs qs bs alike h = record {
-  touched = λ q n. h.touched q n ∙ touched (k == n) (f n) q;
-  read = λ q n. h.read q n ∙ read (k == n) (f n) q;
-}
+index_alike idx f k rs qs bs alike h =
+    index_same idx (with_footprint f k (Some (footprint qs bs))) (with_footprint f k (Some (footprint rs bs)))
+    (λ q n. touched (k == n) (f n) q)
+    (λ q n. own (k == n) (f n) q)
+    (λ q n. read (k == n) (f n) q)
+    h
   where
     touched : (b : Bool) (o : Option (Footprint workbook)) (q : Place) →
         touched_by (if b then Some (footprint qs bs) else o) q ≡ touched_by (if b then Some (footprint rs bs) else o) q
     touched true o q = refl
     touched false o q = refl
+
+    own : (b : Bool) (o : Option (Footprint workbook)) (q : Place) →
+        own_touched_by (if b then Some (footprint qs bs) else o) q ≡ own_touched_by (if b then Some (footprint rs bs) else o) q
+    own true o q = refl
+    own false o q = refl
 
     read : (b : Bool) (o : Option (Footprint workbook)) (q : Place) →
         read_by (if b then Some (footprint qs bs) else o) q ≡ read_by (if b then Some (footprint rs bs) else o) q
@@ -85,12 +94,15 @@ index_alike idx f k rs qs bs alike h = record {
 -- an index of footprints, of which one is this, is one where it names what another one names
 pub put_alike : (idx : FootIndex) (f : Footprints) (k : ℕ) (rs qs : List Pattern) (bs : Changes) → NameAlike rs qs → f k ≡ Some (footprint rs bs) →
     IsIndexOf idx f → IsIndexOf idx (with_footprint f k (Some (footprint qs bs)))
-put_alike idx f k rs qs bs alike is h = record {
-  touched = λ q n. h.touched q n ∙ elim (k == n) as (λ b. (k == n) ≡ b → touched_by (f n) q ≡ touched_by (if b then Some (footprint qs bs) else f n) q)
-      [ true ↦ λ e. ap (λ o. touched_by o q) (here n e) | false ↦ λ e. refl ] refl;
-  read = λ q n. h.read q n ∙ elim (k == n) as (λ b. (k == n) ≡ b → read_by (f n) q ≡ read_by (if b then Some (footprint qs bs) else f n) q)
-      [ true ↦ λ e. ap (λ o. read_by o q) (here n e) ∙ alike.places q | false ↦ λ e. refl ] refl;
-}
+put_alike idx f k rs qs bs alike is h =
+    index_same idx f (with_footprint f k (Some (footprint qs bs)))
+    (λ q n. elim (k == n) as (λ b. (k == n) ≡ b → touched_by (f n) q ≡ touched_by (if b then Some (footprint qs bs) else f n) q)
+    [ true ↦ λ e. ap (λ o. touched_by o q) (here n e) | false ↦ λ e. refl ] refl)
+    (λ q n. elim (k == n) as (λ b. (k == n) ≡ b → own_touched_by (f n) q ≡ own_touched_by (if b then Some (footprint qs bs) else f n) q)
+    [ true ↦ λ e. ap (λ o. own_touched_by o q) (here n e) | false ↦ λ e. refl ] refl)
+    (λ q n. elim (k == n) as (λ b. (k == n) ≡ b → read_by (f n) q ≡ read_by (if b then Some (footprint qs bs) else f n) q)
+    [ true ↦ λ e. ap (λ o. read_by o q) (here n e) ∙ alike.places q | false ↦ λ e. refl ] refl)
+    h
   where
     here : (n : ℕ) → (k == n) ≡ true → f n ≡ Some (footprint rs bs)
     here n e = let same : k ≡ n = grind (arith, nat_tests) in subst (λ (m : ℕ). f m ≡ Some (footprint rs bs)) same is
@@ -105,6 +117,23 @@ meets_alike rs qs bs [] alike = refl
 meets_alike rs qs bs (x ∷ xs) alike =
     ap (λ (b : Bool). (changes cell_cmp bs x.cell || b) || meets_any {w = workbook} (footprint rs bs) xs) (alike.cells x.cell)
     ∙ ap (λ (b : Bool). (changes cell_cmp bs x.cell || covers workbook qs x.cell) || b) (meets_alike rs qs bs xs alike)
+
+once_told : (t p : Bool) → (t || (p || t)) ≡ (t || p)
+once_told true p = refl
+once_told false true = refl
+once_told false false = refl
+
+-- cells that were written are met whether they were read too
+pub written_met : (ps : List Pattern) (bs xs : Changes) → meets_any {w = workbook} (footprint (ps ++ patterns_of bs) bs) xs ≡ meets_any (footprint ps bs) xs
+written_met ps bs [] = refl
+written_met ps bs (x ∷ xs) =
+    let p = covers workbook ps x.cell in
+    let t = changes cell_cmp bs x.cell in
+    let apart : covers workbook (ps ++ patterns_of bs) x.cell ≡ (p || t) =
+    list_any-append (λ q. matches q x.cell) ps (patterns_of bs) ∙ ap (λ (b : Bool). p || b) (sym (cells_cover bs x.cell)) in
+    ap (λ (b : Bool). (t || b) || meets_any {w = workbook} (footprint (ps ++ patterns_of bs) bs) xs) apart
+    ∙ ap (λ (b : Bool). b || meets_any {w = workbook} (footprint (ps ++ patterns_of bs) bs) xs) (once_told t p)
+    ∙ ap (λ (b : Bool). (t || p) || b) (written_met ps bs xs)
 
 at_self : (k : ℕ) → (k == k) ≡ true
 at_self k = grind (arith, nat_tests)

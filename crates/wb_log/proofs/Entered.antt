@@ -64,6 +64,37 @@ all_up_to n f none m = shown (nat_lt n m) (f m) (λ e. none m (above n m e))
 pub not_0 : (k : ℕ) (f : Footprints) (o : Option (Footprint workbook)) → f 0 ≡ None → with_footprint f (k + 1) o 0 ≡ None
 not_0 k f o none = let apart : (k + 1 == 0) ≡ false = grind (arith, nat_tests) in rw apart none
 
+-- the next number has no footprint yet
+pub none_next : (e : ℕ) (f : Footprints) → up_to e f (e + 1) ≡ None
+none_next e f = let past : nat_lt e (e + 1) ≡ true = grind (arith, nat_tests) in rw past refl
+
+-- and where it has come, those up to it are there
+pub next_entered : (e : ℕ) (f : Footprints) (o : Option (Footprint workbook)) (n : ℕ) → f (e + 1) ≡ o → with_footprint (up_to e f) (e + 1) o n ≡ up_to (e + 1) f n
+next_entered e f o n is =
+    either (e + 1 == n) (nat_lt e n) (nat_lt (e + 1) n) (f n)
+    (λ same. let at : e + 1 ≡ n = grind (arith, nat_tests) in (
+      grind (arith, nat_tests),
+      sym is ∙ ap f at,
+    ))
+    (λ apart. same_test e n apart)
+  where
+    either : (a b c : Bool) (y : Option (Footprint workbook)) → (a ≡ true → (c ≡ false) × (o ≡ y)) → (a ≡ false → b ≡ c) →
+        (if a then o else (if b then None else y)) ≡ (if c then None else y)
+    either true b true y h k = let bad = (h refl).0 in cc
+    either true b false y h k = (h refl).1
+    either false b c y h k = ap (λ d. if d then None else y) (k refl)
+
+    same_test : (e n : ℕ) → (e + 1 == n) ≡ false → nat_lt e n ≡ nat_lt (e + 1) n
+    same_test e n apart = grind (arith, nat_tests)
+
+-- none that comes at a number without one changes nothing
+pub none_comes : (f : Footprints) (k : ℕ) (o : Option (Footprint workbook)) (n : ℕ) → o ≡ None → f k ≡ None → f n ≡ with_footprint f k o n
+none_comes f k o n off none =
+    elim (k == n) as (λ b. (k == n) ≡ b → f n ≡ (if b then o else f n)) [
+      | true ↦ λ e. let same : k ≡ n = grind (arith, nat_tests) in subst (λ (m : ℕ). f m ≡ o) same (none ∙ sym off)
+      | false ↦ λ e. refl
+    ] refl
+
 -- ---- all have entered
 
 pub index_whole : (idx : FootIndex) (es : List kept.LoggedEdit) (n : ℕ) → length es ≤ n → IsIndexOf idx (up_to n (by_number es)) → IsIndexOf idx (by_number es)

@@ -15,14 +15,12 @@ use Rattle.wb_cells.specs.declared.changes.row.IndexedRow.TheVariants.{Elements}
 use Rattle.wb_cells.specs.declared.changes.rectangle.RectangleChanges.{RectangleChanges}
 use Rattle.wb_cells.specs.declared.changes.run.ChangeRun.{ChangeRun}
 use Rattle.wb_cells.specs.declared.changes.run.RunForm.TheVariants.{Rectangle}
-use Rattle.wb_cells.specs.declared.reads.ReadRun.{ReadRun}
 use Rattle.wb_cells.specs.declared.values.index.Index.TheVariants.{Point}
 use Rattle.wb_cells.specs.Cells.{Name, Cells, Changes}
-use Rattle.wb_cells.specs.Reads.{patterns_of, all_read}
+use Rattle.wb_cells.specs.Reads.{patterns_of}
 use Rattle.wb_cells.specs.Runs.{cell_of, changes_in, all_changes, in_first, packed_changes, rectangle_entries, numbered_entries}
 use Rattle.wb_cells.specs.Shapes.{Range, indices}
-use Rattle.wb_log.specs.Fills.{filled_cells, values_in, values_of}
-use Rattle.wb_log.specs.Sets.{cells_in, AreCells}
+use Rattle.wb_log.specs.Fills.{filled_cells, held_cells, values_in, values_of}
 
 -- ---- lists of one
 
@@ -30,10 +28,6 @@ pub one_changed : (rs : List ChangeRun) (r : ChangeRun) → length rs ≡ 1 → 
 one_changed [] r e = absurd (omega (arith, e))
 one_changed (x ∷ []) r e = append-nil (changes_in x.form)
 one_changed (x ∷ y ∷ rs) r e = absurd (omega (arith, e))
-
--- the cells of the one run, behind patterns
-pub read_apart : (ps : List Pattern) (runs : List ReadRun) → AreCells runs → ps ++ patterns_of (cells_in runs) ≡ ps ++ all_read runs
-read_apart ps runs h = ap (λ (qs : List Pattern). ps ++ qs) (sym (ap all_read h.alone ∙ append-nil (patterns_of (cells_in runs))))
 
 -- ---- the cells
 
@@ -112,14 +106,7 @@ block_added all old ns row a rs is few added =
     ap (λ (k : IndexedRow). values_in (packed_changes k (numbered_entries rs ns))) is ∙ there in
     ap values_of added ∙ map-append f old ns ∙ ap (λ (l : List (Option Value)). values_of old ++ l) (sym told)
 
--- a list made of numbers is the one that they are of
-pub numbers_told : (all start xs : Changes) (row : IndexedRow) (rs : List Range) (ms ns : List ℤ) (a : Name) (on : List Range) →
-    all ≡ start ++ packed_changes row (numbered_entries rs ms) → start ≡ [] → row ≡ Elements a → rs ≡ on → ms ≡ ns →
-    patterns_of xs ≡ patterns_of (filled_cells a on) → values_of ns ≡ values_in xs → all ≡ xs
-numbers_told all start xs row rs ms ns a on is none row_is rs_is ms_is cells values =
-    let told : packed_changes (Elements a) (numbered_entries on ns) ≡ xs = by_values a None _ ns xs cells values in
-    is ∙ ap (λ (l : Changes). l ++ packed_changes row (numbered_entries rs ms)) none
-    ∙ ap (λ (k : IndexedRow). packed_changes k (numbered_entries rs ms)) row_is
-    ∙ ap (λ (k : List Range). packed_changes (Elements a) (numbered_entries k ms)) rs_is
-    ∙ ap (λ (k : List ℤ). packed_changes (Elements a) (numbered_entries on k)) ms_is
-    ∙ told
+-- numbers at the cells of a list are that list, where it sets these
+pub held_told : (a : Name) (on : List Range) (ns : List ℤ) (xs : Changes) → patterns_of xs ≡ patterns_of (filled_cells a on) → values_of ns ≡ values_in xs →
+    held_cells a on ns ≡ xs
+held_told a on ns xs cells values = by_values a None _ ns xs cells values

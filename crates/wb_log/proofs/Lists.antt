@@ -1,18 +1,32 @@
 -- A history's list of what it keeps, after an edit, an undo or a redo.
-use Rattle.std.proofs.Common.{◌≡◌, ℕ, zero, suc, ◌==◌, List, [], ◌∷◌, length, slice_set, Option, ◌<◌, arith, true, false, inl, inr, refl, sym, ap, subst, ◌∙◌}
+use Rattle.std.proofs.Common.{◌≡◌, ℕ, zero, suc, ◌==◌, ◌||◌, List, [], ◌∷◌, length, slice_set, Option, ◌<◌, arith, true, false, inl, inr, refl, sym, ap, subst, ◌∙◌}
 use Rattle.std.proofs.lemmas.Bool.{cases_eq}
 use Rattle.std.proofs.lemmas.Bool.Decides.{nat_tests}
 use Rattle.selective_undo.specs.Log.{Footprint}
 use Rattle.wb_cells.specs.Schema.{workbook}
 use Rattle.wb_footprints.specs.declared.foot_index.FootIndex.{FootIndex}
-use Rattle.wb_footprints.specs.Footprints.{IsIndexOf, with_footprint, touched_by, read_by}
+use Rattle.wb_footprints.specs.declared.places.place.Place.{Place}
+use Rattle.wb_footprints.specs.Footprints.{IsIndexOf, with_footprint, touched_by, read_by, own_touched_by}
+use Rattle.wb_footprints.specs.Places.{place_marked}
 use Rattle.wb_log.specs.Kept.{footprint_at_number}
 
 abbrev Kept : Type 0
 Kept = List (Option (Footprint workbook))
 
+-- an index is one of footprints that touch and read the same places
+pub index_same : (idx : FootIndex) (f g : ℕ → Option (Footprint workbook)) → ((q : Place) (n : ℕ) → touched_by (f n) q ≡ touched_by (g n) q) →
+    ((q : Place) (n : ℕ) → own_touched_by (f n) q ≡ own_touched_by (g n) q) → ((q : Place) (n : ℕ) → read_by (f n) q ≡ read_by (g n) q) → IsIndexOf idx f →
+    IsIndexOf idx g
+index_same idx f g touched own read h = record {
+  touched = λ q n. h.touched q n ∙ touched q n;
+  read = record {
+    sound = λ q n marked. sym (read q n) ∙ h.read.sound q n marked;
+    told = λ q n was. ap (λ b. place_marked idx.read q n || b) (sym (own q n)) ∙ h.read.told q n (read q n ∙ was);
+  };
+}
+
 pub index_like : (idx : FootIndex) (f g : ℕ → Option (Footprint workbook)) → ((n : ℕ) → f n ≡ g n) → IsIndexOf idx f → IsIndexOf idx g
-index_like idx f g e h = record { touched = λ q n. h.touched q n ∙ ap (λ o. touched_by o q) (e n); read = λ q n. h.read q n ∙ ap (λ o. read_by o q) (e n) }
+index_like idx f g e h = index_same idx f g (λ q n. ap (λ o. touched_by o q) (e n)) (λ q n. ap (λ o. own_touched_by o q) (e n)) (λ q n. ap (λ o. read_by o q) (e n)) h
 
 at_self : (a : ℕ) → (a == a) ≡ true
 at_self a = grind (arith, nat_tests)

@@ -7,10 +7,9 @@ use Rattle.selective_undo.specs.Log.{Footprint, blocks_undo}
 use Rattle.selective_undo.proofs.Log.{cases_lt}
 use Rattle.wb_cells.specs.Cells.{Changes}
 use Rattle.wb_cells.specs.Schema.{workbook}
-use Rattle.wb_footprints.specs.declared.marks.numbers.Numbers.{Numbers}
 use Rattle.wb_footprints.specs.declared.foot_index.FootIndex.{FootIndex}
 use Rattle.wb_footprints.specs.Footprints.{Footprints, IsIndexOf}
-use Rattle.wb_footprints.specs.Numbers.{numbered}
+use Rattle.wb_footprints.specs.Numbers.{Numbers, numbered}
 use Rattle.wb_footprints.specs.declared.questions.swept.SweptCells.{SweptCells}
 use Rattle.wb_footprints.specs.Relation.{IsLeast, JoinedAfter}
 use Rattle.wb_footprints.specs.Swept.{AreSwept}

@@ -8,8 +8,9 @@ use Rattle.wb_cells.specs.declared.cells.value.Value.TheVariants.{Number}
 use Rattle.wb_cells.specs.declared.changes.row.IndexedRow.TheVariants.{Elements}
 use Rattle.wb_cells.specs.Cells.{Name, Changes}
 use Rattle.wb_cells.specs.Reads.{patterns_of}
-use Rattle.wb_cells.specs.Runs.{packed_changes, rectangle_entries}
+use Rattle.wb_cells.specs.Runs.{packed_changes, rectangle_entries, numbered_entries}
 use Rattle.wb_cells.specs.Shapes.{Range}
+use Rattle.wb_log.specs.declared.filled_cells.FilledCells.{FilledCells}
 
 -- the elements of an array at the indices of a rectangle, in order, as the changes that clear them
 abbrev pub filled_cells : Name → List Range → Changes
@@ -26,3 +27,12 @@ values_in xs = map (λ x. x.value) xs
 -- numbers, as values
 abbrev pub values_of : List ℤ → List (Option Value)
 values_of ns = map (λ n. Some (Number n)) ns
+
+-- numbers that the elements of an array at the indices of a rectangle held, the first at the first index and so on, as the changes
+-- that set them back
+abbrev pub held_cells : Name → List Range → List ℤ → Changes
+held_cells a on ns = packed_changes (Elements a) (numbered_entries on ns)
+
+-- the same, lent
+abbrev pub filled_in : FilledCells → Changes
+filled_in f = held_cells f.array.now f.on.now f.numbers.now

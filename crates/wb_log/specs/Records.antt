@@ -21,12 +21,18 @@ use Rattle.wb_log.specs.declared.entry.Was.{Was}
 use Rattle.wb_log.specs.declared.entry.Was.TheVariants.{Untold, Number as WasNumber, Present as WasPresent, Nothing as WasNothing}
 use Rattle.wb_log.specs.declared.entry.LoggedEdit.{LoggedEdit}
 use Rattle.wb_log.specs.declared.entry.UndoData.{UndoData}
+use Rattle.wb_log.specs.declared.entry.FillsRecord.{FillsRecord}
 use Rattle.wb_log.specs.declared.entry.RecordForm.{RecordForm}
 use Rattle.wb_log.specs.declared.entry.RecordForm.TheVariants.{Set, Copy, Irv, Member as OneMember, Fill, Sets, Fills, Whole}
 use Rattle.wb_log.specs.declared.entry.LentEdit.{LentEdit}
 use Rattle.wb_log.specs.declared.entry.LentEdit.TheVariants.{Own, Lent as LentOne}
 use Rattle.wb_log.specs.declared.entry.LentFootprint.{LentFootprint}
-use Rattle.wb_log.specs.declared.entry.LentFootprint.TheVariants.{Set as OfSet, Copy as OfCopy, Irv as OfIrv, Member as OfMember, Fill as OfFill, Sets as OfSets, Fills as OfFills, Lent as LentKept}
+use Rattle.wb_log.specs.declared.entry.LentFootprint.TheVariants.{Set as OfSet, Copy as OfCopy, Irv as OfIrv, Member as OfMember, Fill as OfFill, Sets as OfSets, Lent as OfWhole}
+use Rattle.wb_log.specs.declared.lent.LentKept.{LentKept}
+use Rattle.wb_log.specs.declared.lent.LentKept.TheVariants.{Listed, Filled}
+use Rattle.wb_log.specs.declared.lent.LentCells.{LentCells}
+use Rattle.wb_log.specs.declared.lent.LentCells.TheVariants.{Listed as ListedCells, Filled as FilledOnes}
+use Rattle.wb_log.specs.Fills.{array_reads, held_cells, filled_in}
 use Rattle.wb_log.specs.Kept.{footprint}
 
 -- what a new value of an element reads: the array, and the element
@@ -99,6 +105,10 @@ kept_of (Sets x) old = None
 kept_of (Fills x) old = None
 kept_of (Whole w) old = None
 
+-- what is kept of a fill of several elements, by the numbers that these were, if it is in force
+abbrev pub fills_kept : FillsRecord → Option UndoData
+fills_kept x = option_map (λ ns. let xs = held_cells x.array x.on ns.items in record { footprint = array_reads x.array xs; inverse = xs }) x.were
+
 -- the entry that a form stands for
 abbrev pub shown : RecordForm → LoggedEdit
 shown (Set x) = record { edit = OneCommand (SetTo x.array x.place x.value); kept = kept_of (Set x) (before_in x.was) }
@@ -107,7 +117,7 @@ shown (Irv x) = record { edit = OneCommand (IrvTo x.array x.value); kept = kept_
 shown (OneMember x) = record { edit = member_edit x.comes x.domain x.place; kept = kept_of (OneMember x) (before_in x.was) }
 shown (Fill x) = record { edit = OneCommand (FillWith x.value.array (Ranges x.value.on) x.value.value); kept = kept_of (Fill x) (before_in x.value.was) }
 shown (Sets x) = record { edit = x.value.edit; kept = x.value.were }
-shown (Fills x) = record { edit = OneCommand (FillWith x.value.array (Ranges x.value.on) x.value.value); kept = x.value.were }
+shown (Fills x) = record { edit = OneCommand (FillWith x.value.array (Ranges x.value.on) x.value.value); kept = fills_kept x.value }
 shown (Whole w) = w.value
 
 -- what is kept of a form's edit once it is told what the cells held: of sets as one edit that, and of another form what was
@@ -118,7 +128,7 @@ held_of (Copy x) were = kept_of (Copy x) (before_in x.value.was)
 held_of (Irv x) were = kept_of (Irv x) (before_in x.was)
 held_of (OneMember x) were = kept_of (OneMember x) (before_in x.was)
 held_of (Fill x) were = kept_of (Fill x) (before_in x.value.was)
-held_of (Fills x) were = x.value.were
+held_of (Fills x) were = fills_kept x.value
 held_of (Whole w) were = w.value.kept
 
 -- the edit that is lent
@@ -134,5 +144,14 @@ lent_footprint (OfIrv rs b) = footprint rs b
 lent_footprint (OfMember rs b) = footprint rs b
 lent_footprint (OfFill rs b) = footprint rs b
 lent_footprint (OfSets w) = footprint w.now.footprint w.now.inverse
-lent_footprint (OfFills w) = footprint w.now.footprint w.now.inverse
-lent_footprint (LentKept k) = footprint k.now.footprint k.now.inverse
+lent_footprint (OfWhole k) = footprint k.now.footprint k.now.inverse
+
+-- the same, also where a fill is lent by the numbers that its elements were
+abbrev pub lent_kept : LentKept → Footprint workbook
+lent_kept (Listed l) = lent_footprint l
+lent_kept (Filled f) = footprint (array_reads f.array.now (filled_in f)) (filled_in f)
+
+-- the cells that are lent, with what they were
+abbrev pub lent_cells : LentCells → Changes
+lent_cells (ListedCells xs) = xs.now
+lent_cells (FilledOnes f) = filled_in f

@@ -9,14 +9,15 @@ ghost use Rattle.wb_cells.specs.Cells.{cell_cmp};
 ghost use Rattle.wb_cells.specs.Reads.{all_read, read_in, patterns_of};
 ghost use Rattle.wb_cells.specs.Schema.{workbook};
 ghost use Rattle.wb_log.specs.Kept.{footprint, kept_in, kept_all};
-ghost use Rattle.wb_log.specs.Records.{lent_footprint};
+ghost use Rattle.wb_log.specs.Records.{lent_footprint, lent_kept, lent_cells};
 
 use crate::entry::{EditRecord, LentFootprint};
+use crate::lent::{LentCells, LentKept};
 use crate::steps::making::is_same;
 use wb_cells::{Cell, Changes, Pattern, ReadRun};
 
-fn is_changed(wrote: &Changes, cell: &Cell) -> bool
-    ensures { result ≡ changes cell_cmp wrote.now cell.now }
+fn is_changed(wrote: &LentCells<'_>, cell: &Cell) -> bool
+    ensures { result ≡ changes cell_cmp (lent_cells wrote.now) cell.now }
 {
     let mut near = 0;
     for at in 0..wrote.len() {
@@ -44,7 +45,7 @@ fn is_named(pattern: &Pattern, cell: &Cell) -> bool
 fn is_listed(cells: &Changes, cell: &Cell) -> bool
     ensures { result ≡ covers workbook (patterns_of cells.now) cell.now }
 {
-    is_changed(cells, cell)
+    is_changed(&LentCells::Listed(cells), cell)
 }
 
 // Whether a pattern of a run names the cell.
@@ -75,15 +76,20 @@ fn is_read(reads: &[Pattern], runs: &[ReadRun], cell: &Cell) -> bool
     is_covered(reads, cell) || is_covered_by(runs, cell)
 }
 
-fn meets(reads: &[Pattern], runs: &[ReadRun], wrote: &Changes, cell: &Cell) -> bool
-    ensures { result ≡ (changes cell_cmp wrote.now cell.now || covers workbook (reads.now ++ all_read runs.now) cell.now) }
+fn meets(reads: &[Pattern], runs: &[ReadRun], wrote: &LentCells<'_>, cell: &Cell) -> bool
+    ensures { result ≡ (changes cell_cmp (lent_cells wrote.now) cell.now || covers workbook (reads.now ++ all_read runs.now) cell.now) }
 {
     is_changed(wrote, cell) || is_read(reads, runs, cell)
 }
 
 // Whether an edit that read these patterns and wrote `wrote` reads or writes one of the cells.
-fn meets_any(reads: &[Pattern], runs: &[ReadRun], wrote: &Changes, cells: &Changes) -> bool
-    ensures { result ≡ meets_any (footprint (reads.now ++ all_read runs.now) wrote.now) cells.now }
+fn meets_any(
+    reads: &[Pattern],
+    runs: &[ReadRun],
+    wrote: &LentCells<'_>,
+    cells: &LentCells<'_>,
+) -> bool
+    ensures { result ≡ meets_any (footprint (reads.now ++ all_read runs.now) (lent_cells wrote.now)) (lent_cells cells.now) }
 {
     let mut near = 0;
     for at in 0..cells.len() {
@@ -95,16 +101,28 @@ fn meets_any(reads: &[Pattern], runs: &[ReadRun], wrote: &Changes, cells: &Chang
     false
 }
 
-// Whether an edit of which this footprint is kept reads or writes one of the cells.
-fn is_met(kept: &LentFootprint<'_>, cells: &Changes) -> bool
-    ensures { result ≡ meets_any (lent_footprint kept.now) cells.now }
+// Whether an edit of which this is kept reads or writes one of the cells. A fill reads the array beside the elements that it writes.
+fn is_met(kept: &LentKept<'_>, cells: &LentCells<'_>) -> bool
+    ensures { result ≡ meets_any (lent_kept kept.now) (lent_cells cells.now) }
 {
-    let (reads, runs) = kept.reads();
-    meets_any(reads, runs, kept.before(), cells)
+    match kept {
+        LentKept::Listed(listed) => is_listed_met(listed, cells),
+        LentKept::Filled(filled) => {
+            meets_any(&[filled.object()], &[], &LentCells::Filled(*filled), cells)
+        }
+    }
 }
 
-fn blocks_undo(x: &EditRecord, before: &Changes) -> bool
-    ensures { result ≡ blocks_undo before.now (kept_in x.now) }
+// Whether an edit of which this footprint is kept reads or writes one of the cells.
+fn is_listed_met(kept: &LentFootprint<'_>, cells: &LentCells<'_>) -> bool
+    ensures { result ≡ meets_any (lent_footprint kept.now) (lent_cells cells.now) }
+{
+    let (reads, runs) = kept.reads();
+    meets_any(reads, runs, &LentCells::Listed(kept.before()), cells)
+}
+
+fn blocks_undo(x: &EditRecord, before: &LentCells<'_>) -> bool
+    ensures { result ≡ blocks_undo (lent_cells before.now) (kept_in x.now) }
 {
     match x.kept() {
         None => false,
@@ -118,18 +136,23 @@ fn blocks_redo(x: &EditRecord, reads: &[Pattern], runs: &[ReadRun], delta: &Chan
     match x.kept() {
         None => false,
         Some(kept) => {
-            if is_met(&kept, delta) {
+            let made = LentCells::Listed(delta);
+            if is_met(&kept, &made) {
                 return true;
             }
-            meets_any(reads, runs, delta, kept.before())
+            meets_any(reads, runs, &made, &kept.cells())
         }
     }
 }
 
 /// The number of the first edit in force that needs one that wrote the cells.
-pub(crate) fn first_to_block_undo(later: &[EditRecord], from: u64, before: &Changes) -> Option<u64>
+pub(crate) fn first_to_block_undo(
+    later: &[EditRecord],
+    from: u64,
+    before: &LentCells<'_>,
+) -> Option<u64>
     requires { from + length later.now < 2 ^ 64 }
-    ensures { result ≡ first_from (blocks_undo before.now) from (kept_all later.now) }
+    ensures { result ≡ first_from (blocks_undo (lent_cells before.now)) from (kept_all later.now) }
 {
     let mut number = from;
     for x in later {

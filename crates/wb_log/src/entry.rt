@@ -13,12 +13,13 @@ ghost use Rattle.wb_log.specs.declared.entry.Before.TheVariants as before;
 ghost use Rattle.wb_log.specs.Kept.{kept_in};
 ghost use Rattle.wb_edit.specs.declared.asked_rectangle.AskedRectangle.TheVariants as asked_for;
 ghost use Rattle.wb_log.specs.Records.{element_reads, copy_reads, implicit_reads, member_edit, member_reads, filled_cell, fill_reads, value_before, before_in, cell_before};
-ghost use Rattle.wb_log.specs.Records.{lent_edit, lent_footprint, shown, kept_of, held_of};
+ghost use Rattle.wb_log.specs.Records.{lent_edit, lent_footprint, lent_kept, shown, kept_of, held_of};
 ghost use Rattle.wb_log.specs.Sets.{NameAlike};
 
 use crate::array_sets::ArraySets;
-use crate::cells_read::CellsRead;
 use crate::cells_were::CellsWere;
+use crate::filled_cells::FilledCells;
+use crate::lent::LentKept;
 use crate::undone::form_undone;
 use std::alloc::Global;
 use std::marker::Model;
@@ -118,7 +119,7 @@ pub(crate) struct FillsRecord {
     pub(crate) array: Name,
     pub(crate) on: AnyRect,
     pub(crate) value: i64,
-    pub(crate) were: Option<CellsRead>,
+    pub(crate) were: Option<Vec<i64>>,
 }
 
 /// Sets of elements of one array as one edit, and what the elements were, while the edit is in force.
@@ -190,7 +191,7 @@ impl<'a> LentEdit<'a> {
     }
 }
 
-/// What is kept of an edit in force, lent, or made for the moment.
+/// What is kept of an edit in force that has a list of what its cells were, lent, or made for the moment.
 #[derive(Drop)]
 pub(crate) enum LentFootprint<'a> {
     Set([Pattern; 2], Inverse),
@@ -199,7 +200,6 @@ pub(crate) enum LentFootprint<'a> {
     Member([Pattern; 3], Inverse),
     Fill([Pattern; 2], Inverse),
     Sets(&'a CellsWere),
-    Fills(&'a CellsRead),
     Lent(&'a UndoData),
 }
 
@@ -215,7 +215,6 @@ impl<'a> LentFootprint<'a> {
             LentFootprint::Member(reads, _) => (reads, &[]),
             LentFootprint::Fill(reads, _) => (reads, &[]),
             LentFootprint::Sets(were) => were.reads(),
-            LentFootprint::Fills(were) => were.parts(),
             LentFootprint::Lent(kept) => kept.footprint.parts(),
         }
     }
@@ -232,7 +231,6 @@ impl<'a> LentFootprint<'a> {
             LentFootprint::Member(_, inverse) => inverse.before(),
             LentFootprint::Fill(_, inverse) => inverse.before(),
             LentFootprint::Sets(were) => were.before(),
-            LentFootprint::Fills(were) => were.before(),
             LentFootprint::Lent(kept) => kept.inverse.before(),
         }
     }
@@ -606,56 +604,60 @@ impl EditRecord {
     }
 
     /// What is kept of the edit, if it is in force.
-    pub(crate) fn kept(&self) -> Option<LentFootprint<'_>>
-        ensures { option_map lent_footprint result ≡ kept_in self.now }
+    pub(crate) fn kept(&self) -> Option<LentKept<'_>>
+        ensures { option_map lent_kept result ≡ kept_in self.now }
     {
         match &self.form {
             RecordForm::Set(element) => match element.was.before() {
                 None => None,
-                Some(was) => Some(LentFootprint::Set(
+                Some(was) => Some(LentKept::Listed(LentFootprint::Set(
                     element.reads(),
                     set_back(element.cell(), &was),
-                )),
+                ))),
             },
             RecordForm::Copy(copied) => match copied.was.before() {
                 None => None,
-                Some(was) => Some(LentFootprint::Copy(
+                Some(was) => Some(LentKept::Listed(LentFootprint::Copy(
                     copied.reads(),
                     set_back(copied.cell(), &was),
-                )),
+                ))),
             },
             RecordForm::Irv(implicit) => match implicit.was.before() {
                 None => None,
-                Some(was) => Some(LentFootprint::Irv(
+                Some(was) => Some(LentKept::Listed(LentFootprint::Irv(
                     implicit.reads(),
                     set_back(implicit.cell(), &was),
-                )),
+                ))),
             },
             RecordForm::Member(member) => match member.was.before() {
                 None => None,
-                Some(was) => Some(LentFootprint::Member(
+                Some(was) => Some(LentKept::Listed(LentFootprint::Member(
                     member.reads(),
                     set_back(member.cell(), &was),
-                )),
+                ))),
             },
             RecordForm::Fill(filled) => match filled.was.before() {
                 None => None,
-                Some(was) => Some(LentFootprint::Fill(
+                Some(was) => Some(LentKept::Listed(LentFootprint::Fill(
                     filled.reads(),
                     set_back(filled.cell(), &was),
-                )),
+                ))),
             },
             RecordForm::Sets(sets) => match &sets.were {
                 None => None,
-                Some(were) => Some(LentFootprint::Sets(were)),
+                Some(were) => Some(LentKept::Listed(LentFootprint::Sets(were))),
             },
             RecordForm::Fills(fills) => match &fills.were {
                 None => None,
-                Some(were) => Some(LentFootprint::Fills(were)),
+                Some(were) => Some(LentKept::Filled(FilledCells {
+                    array: &fills.array,
+                    on: &fills.on,
+                    numbers: were,
+                })),
             },
             RecordForm::Whole(entry) => match &entry.kept {
                 None => None,
-                Some(kept) => Some(LentFootprint::Lent(kept)),
+                Some(kept) => Some(LentKept::Listed(LentFootprint::Lent(kept))),
             },
         }
     }

@@ -6,10 +6,11 @@
 
 mod array_sets;
 mod blockers;
-mod cells_read;
 mod cells_were;
 mod entry;
+mod filled_cells;
 mod index;
+mod lent;
 mod log;
 mod steps;
 mod sweep;

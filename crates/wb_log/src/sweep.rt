@@ -8,12 +8,14 @@ ghost use Rattle.wb_log.specs.Kept.{by_number};
 ghost use Rattle.wb_log.specs.Needed.{AreFromFootprints, Joined};
 
 use crate::entry::EditRecord;
+use crate::lent::LentKept;
 use std::alloc::Global;
 use wb_footprints::{FootIndex, Numbers, SweptCells};
 use wb_range::NoMemory;
 
 /// The edits wait that need the one of a number.
 fn wait_for_those(
+    alloc: Global,
     index: &FootIndex,
     entries: &[EditRecord],
     number: u64,
@@ -29,7 +31,13 @@ fn wait_for_those(
 {
     match entries[(number - 1) as usize].kept() {
         None => Ok(()),
-        Some(kept) => index.join_blockers(kept.before(), number, waiting, swept),
+        Some(LentKept::Listed(listed)) => {
+            index.join_blockers(listed.before(), number, waiting, swept)
+        }
+        Some(LentKept::Filled(filled)) => match filled.changes(alloc) {
+            Err(why) => Err(why),
+            Ok(before) => index.join_blockers(&before, number, waiting, swept),
+        },
     }
 }
 
@@ -59,7 +67,7 @@ pub(crate) fn needing(
             Ok(()) => {}
             Err(_) => return Err(NoMemory),
         }
-        match wait_for_those(index, entries, next, &mut waiting, &mut swept) {
+        match wait_for_those(alloc, index, entries, next, &mut waiting, &mut swept) {
             Ok(()) => {}
             Err(_) => return Err(NoMemory),
         }

@@ -130,7 +130,8 @@ fn mark_run(
     }
 }
 
-fn mark_runs(
+// Marks the cells of runs.
+pub(crate) fn mark_runs(
     marks: &mut PlaceMarks,
     marking: Marking,
     runs: &[ChangeRun],
@@ -231,7 +232,8 @@ fn unmark_run(marks: &mut PlaceMarks, marking: Marking, cells: &ChangeRun, numbe
     }
 }
 
-fn unmark_runs(marks: &mut PlaceMarks, marking: Marking, runs: &[ChangeRun], number: u64)
+// Takes a number away from the cells of runs.
+pub(crate) fn unmark_runs(marks: &mut PlaceMarks, marking: Marking, runs: &[ChangeRun], number: u64)
     ensures { Clears (place_marked marks.old) (place_marked marks.new) (marked_at marking (all_changes runs.now)) number }
 {
     for run in runs {

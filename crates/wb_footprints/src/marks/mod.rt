@@ -16,3 +16,5 @@ pub mod reach_marks;
 pub mod reading;
 pub mod slot_marks;
 pub mod text_marks;
+mod word;
+mod words;

@@ -4,15 +4,27 @@ ghost use Rattle.std.specs.Prelude.{◌≡◌, ℕ, ◌==◌, false, true, IsTru
 ghost use Rattle.wb_footprints.specs.Relation.{AreAllAfter, IsGreatest, IsLeast, IsLeastAfter, JoinedAfter};
 ghost use Rattle.wb_footprints.specs.Numbers.{numbered};
 
+use crate::marks::words::{add_to, greatest, has, least, least_after, take_from};
 use std::alloc::Global;
-use std::collections::BTreeSet;
-use std::ops::Bound;
+use std::collections::BTreeMap;
+use std::marker::Model;
 use wb_range::NoMemory;
 
-/// A set of numbers.
+/// A set of numbers, kept as words of 64 bits: the bits of the word at a place `k` are of the numbers from `64 * k` on. Contracts
+/// see the words by their places.
 #[derive(Drop)]
 pub struct Numbers {
-    set: BTreeSet<u64>,
+    words: BTreeMap<u64, u64>,
+}
+
+impl Model for Numbers {
+    ghost use Rattle.wb_footprints.specs.Numbers.{Numbers as Seen, AreWhole};
+
+    ghost Value = { Seen };
+
+    ghost view = { λ a. a.words.entries };
+
+    ghost invariant = { λ a. AreWhole a.words.entries };
 }
 
 impl Numbers {
@@ -21,7 +33,7 @@ impl Numbers {
         ensures { (n : ℕ) → numbered result n ≡ false }
     {
         Numbers {
-            set: BTreeSet::new(alloc),
+            words: BTreeMap::new(alloc),
         }
     }
 
@@ -30,31 +42,28 @@ impl Numbers {
         ensures ok { OnOk result ((n : ℕ) → numbered self.new n ≡ (if number == n then true else numbered self.old n)) }
         ensures err { OnErr result (self.new ≡ self.old) }
     {
-        match self.set.insert(number) {
-            Ok(_) => Ok(()),
-            Err(_) => Err(NoMemory),
-        }
+        add_to(&mut self.words, number)
     }
 
     /// Takes a number away.
     pub fn take(&mut self, number: u64)
         ensures { (n : ℕ) → numbered self.new n ≡ (if number == n then false else numbered self.old n) }
     {
-        self.set.remove(&number);
+        take_from(&mut self.words, number);
     }
 
     /// Whether there is no number.
     pub fn is_empty(&self) -> bool
         ensures { IsTrue result → (n : ℕ) → numbered self.now n ≡ false }
     {
-        self.set.is_empty()
+        self.words.is_empty()
     }
 
     /// Whether a number is in the set.
     pub fn has(&self, number: u64) -> bool
         ensures { result ≡ numbered self.now number }
     {
-        self.set.contains(&number)
+        has(&self.words, number)
     }
 
     /// Takes the least number away.
@@ -63,15 +72,20 @@ impl Numbers {
         ensures taken { IfSome result (λ j. (n : ℕ) → numbered self.new n ≡ (if j == n then false else numbered self.old n)) }
         ensures none { IfNone result ((n : ℕ) → numbered self.new n ≡ numbered self.old n) }
     {
-        self.set.pop_first()
+        match least(&self.words) {
+            None => None,
+            Some(number) => {
+                take_from(&mut self.words, number);
+                Some(number)
+            }
+        }
     }
 
     /// The least number above `after`.
     pub fn least_after(&self, after: u64) -> Option<u64>
         ensures { IsLeastAfter (numbered self.now) after result }
     {
-        let from = (Bound::Excluded(after), Bound::Unbounded);
-        self.set.range(from).next().copied()
+        least_after(&self.words, after)
     }
 
     /// Those above `after` join the numbers that wait.
@@ -106,6 +120,6 @@ impl Numbers {
     pub fn greatest(&self) -> Option<u64>
         ensures { IsGreatest (numbered self.now) result }
     {
-        self.set.last().copied()
+        greatest(&self.words)
     }
 }

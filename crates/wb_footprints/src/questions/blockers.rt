@@ -4,7 +4,7 @@ ghost use Rattle.std.specs.Prelude.{OnOk, IfOk};
 ghost use Rattle.std.specs.List.{list_any};
 ghost use Rattle.selective_undo.specs.Log.{blocks_undo};
 ghost use Rattle.wb_cells.specs.Runs.{changes_in, all_changes, in_first, cell_of};
-ghost use Rattle.wb_footprints.specs.declared.marks.numbers.Numbers.{Numbers};
+ghost use Rattle.wb_footprints.specs.Numbers.{Numbers};
 ghost use Rattle.wb_footprints.specs.Relation.{AreAllAfter, JoinedAfter};
 ghost use Rattle.wb_footprints.specs.Footprints.{Footprints, IsIndexOf, marked_own, marked_family, marked_met};
 ghost use Rattle.wb_footprints.specs.Swept.{AreSwept};
@@ -340,6 +340,22 @@ impl FootIndex {
     {
         let (first, runs) = before.parts();
         self.join_first(&first, after, waiting, swept)?;
+        self.join_runs(runs, after, waiting, swept)
+    }
+
+    /// As `join_blockers`, where the cells are those of runs.
+    pub fn join_blockers_of(
+        &self,
+        runs: &[ChangeRun],
+        after: u64,
+        waiting: &mut Numbers,
+        swept: &mut SweptCells,
+    ) -> Result<(), NoMemory>
+        requires { AreSwept self.now swept.old waiting.old after }
+        ensures joined { OnOk result ((footprints : Footprints) → IsIndexOf self.now footprints →
+            JoinedAfter waiting.old waiting.new (λ n. blocks_undo (all_changes runs.now) (footprints n)) after) }
+        ensures swept { OnOk result (AreSwept self.now swept.new waiting.new after) }
+    {
         self.join_runs(runs, after, waiting, swept)
     }
 

@@ -5,7 +5,7 @@ ghost use Rattle.std.specs.List.{list_any, Contains};
 ghost use Rattle.std.specs.Ordering.{eq_by_cmp};
 ghost use Rattle.wb_cells.specs.Cells.{cell_cmp};
 ghost use Rattle.wb_footprints.specs.declared.foot_index.FootIndex.{FootIndex};
-ghost use Rattle.wb_footprints.specs.declared.marks.numbers.Numbers.{Numbers};
+ghost use Rattle.wb_footprints.specs.Numbers.{Numbers};
 ghost use Rattle.wb_footprints.specs.Marks.{marked};
 ghost use Rattle.wb_footprints.specs.Places.{family};
 ghost use Rattle.wb_cells.specs.declared.values.index.Index.{Index};

@@ -10,11 +10,14 @@ ghost use Rattle.wb_footprints.specs.Footprints.{Footprints, IsIndexOf, footprin
 ghost use Rattle.wb_footprints.specs.Relation.{IsLeastAfter};
 ghost use Rattle.wb_log.specs.Indexed.{IsByFootprint};
 ghost use Rattle.wb_log.specs.Kept.{by_number, kept_in, kept_all, redo_blocker};
-ghost use Rattle.wb_log.specs.Records.{lent_footprint, element_reads, cell_before};
+ghost use Rattle.wb_log.specs.Fills.{filled_in, array_reads};
+ghost use Rattle.wb_log.specs.Records.{lent_footprint, lent_kept, lent_cells, element_reads, cell_before};
 ghost use Rattle.wb_log.specs.Needed.{AreFromFootprints};
 
 use crate::blockers;
 use crate::entry::{Before, EditRecord, LentFootprint, SetRecord, object_pattern};
+use crate::filled_cells::{FilledCells, runs_of};
+use crate::lent::{LentCells, LentKept};
 use crate::sweep::needing;
 use std::alloc::Global;
 use wb_cells::{Cell, CellChange, Changes, Pattern, ReadRun, Value};
@@ -49,12 +52,13 @@ impl ByFootprint {
         ensures next { OnOk result (self.new.entered ≡ self.old.entered + 1) }
         ensures err { OnErr result ((count : ℕ) (footprints : Footprints) → IsByFootprint self.old count footprints → IsByFootprint self.new count footprints) }
     {
-        if let Some(kept) = entry.kept() {
-            let number = self.entered as u64 + 1;
-            add_kept(&mut self.index, number, &kept)?;
+        match add_entry(self.alloc, &mut self.index, self.entered as u64 + 1, entry) {
+            Err(why) => Err(why),
+            Ok(()) => {
+                self.entered += 1;
+                Ok(())
+            }
         }
-        self.entered += 1;
-        Ok(())
     }
 
     /// Edits enter up to the last, or as far as memory goes.
@@ -77,20 +81,25 @@ impl ByFootprint {
         &mut self,
         entries: &[EditRecord],
         at: usize,
-        before: &Changes,
+        before: &LentCells<'_>,
     ) -> Option<u64>
         requires in_log { at < length entries.now }
         requires few { length entries.now < 2 ^ 63 }
         requires indexed { IsByFootprint self.old (length entries.now) (by_number entries.now) }
-        ensures first { result ≡ first_from (blocks_undo before.now) (at + 2) (drop (at + 1) (kept_all entries.now)) }
+        ensures first { result ≡ first_from (blocks_undo (lent_cells before.now)) (at + 2) (drop (at + 1) (kept_all entries.now)) }
         ensures indexed { IsByFootprint self.new (length entries.now) (by_number entries.now) }
     {
         self.fill(entries);
         if self.entered < entries.len() {
-            let later = later_than(entries, at);
-            return blockers::first_to_block_undo(later, at as u64 + 2, before);
+            return first_to_need(entries, at, before);
         }
-        self.index.first_to_block_undo(before, at as u64 + 1)
+        match before {
+            LentCells::Listed(cells) => self.index.first_to_block_undo(cells, at as u64 + 1),
+            LentCells::Filled(filled) => match filled.changes(self.alloc) {
+                Ok(cells) => self.index.first_to_block_undo(&cells, at as u64 + 1),
+                Err(_) => first_to_need(entries, at, before),
+            },
+        }
     }
 
     /// The number of the first edit after a place that needs one that wrote a cell.
@@ -110,7 +119,7 @@ impl ByFootprint {
         if self.entered < entries.len() {
             let later = later_than(entries, at);
             let one = Changes::one(CellChange::new(*target, None));
-            return blockers::first_to_block_undo(later, at as u64 + 2, &one);
+            return blockers::first_to_block_undo(later, at as u64 + 2, &LentCells::Listed(&one));
         }
         self.index.met_after(target, at as u64 + 1)
     }
@@ -184,14 +193,17 @@ impl ByFootprint {
         needing(self.alloc, &self.index, entries, at as u64 + 1)
     }
 
-    /// The edit at a place is out of force.
-    pub(crate) fn left_force(&mut self, at: usize, kept: &LentFootprint<'_>)
+    /// The edit at a place is out of force. Where no memory is left to tell that, none has entered.
+    pub(crate) fn left_force(&mut self, at: usize, kept: &LentKept<'_>)
         requires { at < 2 ^ 63 }
         ensures { (count : ℕ) (footprints : Footprints) → IsByFootprint self.old count footprints →
-            footprints (at + 1) ≡ Some (lent_footprint kept.now) → IsByFootprint self.new count (with_footprint footprints (at + 1) None) }
+            footprints (at + 1) ≡ Some (lent_kept kept.now) → IsByFootprint self.new count (with_footprint footprints (at + 1) None) }
     {
-        if at < self.entered {
-            take_kept(&mut self.index, at as u64 + 1, kept);
+        if at >= self.entered {
+            return;
+        }
+        if take_kept(self.alloc, &mut self.index, at as u64 + 1, kept).is_err() {
+            *self = ByFootprint::new(self.alloc);
         }
     }
 
@@ -210,15 +222,15 @@ impl ByFootprint {
     }
 
     /// The edit at a place is in force again. Where no memory is left for it, none has entered.
-    pub(crate) fn back_in_force(&mut self, at: usize, kept: &LentFootprint<'_>)
+    pub(crate) fn back_in_force(&mut self, at: usize, kept: &LentKept<'_>)
         requires { at < 2 ^ 63 }
         ensures { (count : ℕ) (footprints : Footprints) → IsByFootprint self.old count footprints → footprints (at + 1) ≡ None →
-            IsByFootprint self.new count (with_footprint footprints (at + 1) (Some (lent_footprint kept.now))) }
+            IsByFootprint self.new count (with_footprint footprints (at + 1) (Some (lent_kept kept.now))) }
     {
         if at >= self.entered {
             return;
         }
-        if add_kept(&mut self.index, at as u64 + 1, kept).is_err() {
+        if add_kept(self.alloc, &mut self.index, at as u64 + 1, kept).is_err() {
             *self = ByFootprint::new(self.alloc);
         }
     }
@@ -244,8 +256,42 @@ impl ByFootprint {
     }
 }
 
-// Adds what is kept of an edit at its number, which has no footprint.
-fn add_kept(index: &mut FootIndex, number: u64, kept: &LentFootprint<'_>) -> Result<(), NoMemory>
+// Adds what is kept of an edit at its number, which has no footprint, if it is in force.
+fn add_entry(
+    alloc: Global,
+    index: &mut FootIndex,
+    number: u64,
+    entry: &EditRecord,
+) -> Result<(), NoMemory>
+    ensures ok { OnOk result ((footprints : Footprints) → IsIndexOf index.old footprints → footprints number ≡ None →
+        IsIndexOf index.new (with_footprint footprints number (kept_in entry.now))) }
+    ensures err { OnErr result ((footprints : Footprints) → IsIndexOf index.old footprints → footprints number ≡ None → IsIndexOf index.new footprints) }
+{
+    match entry.kept() {
+        None => Ok(()),
+        Some(kept) => add_kept(alloc, index, number, &kept),
+    }
+}
+
+// Adds what is kept of an edit in force at its number, which has no footprint.
+fn add_kept(
+    alloc: Global,
+    index: &mut FootIndex,
+    number: u64,
+    kept: &LentKept<'_>,
+) -> Result<(), NoMemory>
+    ensures ok { OnOk result ((footprints : Footprints) → IsIndexOf index.old footprints → footprints number ≡ None →
+        IsIndexOf index.new (with_footprint footprints number (Some (lent_kept kept.now)))) }
+    ensures err { OnErr result ((footprints : Footprints) → IsIndexOf index.old footprints → footprints number ≡ None → IsIndexOf index.new footprints) }
+{
+    match kept {
+        LentKept::Listed(listed) => add_listed(index, number, listed),
+        LentKept::Filled(filled) => add_filled(alloc, index, number, filled),
+    }
+}
+
+// Adds what is kept of an edit, with a list of what its cells were, at its number, which has no footprint.
+fn add_listed(index: &mut FootIndex, number: u64, kept: &LentFootprint<'_>) -> Result<(), NoMemory>
     ensures ok { OnOk result ((footprints : Footprints) → IsIndexOf index.old footprints → footprints number ≡ None →
         IsIndexOf index.new (with_footprint footprints number (Some (lent_footprint kept.now)))) }
     ensures err { OnErr result ((footprints : Footprints) → IsIndexOf index.old footprints → footprints number ≡ None → IsIndexOf index.new footprints) }
@@ -254,13 +300,85 @@ fn add_kept(index: &mut FootIndex, number: u64, kept: &LentFootprint<'_>) -> Res
     index.add(number, reads, runs, kept.before())
 }
 
-// Takes away what is kept of an edit at its number.
-fn take_kept(index: &mut FootIndex, number: u64, kept: &LentFootprint<'_>)
+// Adds what is kept of a fill at its number, which has no footprint.
+fn add_filled(
+    alloc: Global,
+    index: &mut FootIndex,
+    number: u64,
+    filled: &FilledCells<'_>,
+) -> Result<(), NoMemory>
+    ensures ok { OnOk result ((footprints : Footprints) → IsIndexOf index.old footprints → footprints number ≡ None →
+        IsIndexOf index.new (with_footprint footprints number (Some (footprint (array_reads filled.now.array.now (filled_in filled.now)) (filled_in filled.now))))) }
+    ensures err { OnErr result ((footprints : Footprints) → IsIndexOf index.old footprints → footprints number ≡ None → IsIndexOf index.new footprints) }
+{
+    let Ok(cells) = filled.changes(alloc) else {
+        return Err(NoMemory);
+    };
+    match runs_of(&cells) {
+        Some(runs) => index.add_runs(number, &[filled.object()], runs),
+        None => Err(NoMemory),
+    }
+}
+
+// Takes away what is kept of an edit at its number, or nothing where that wants memory and none is left.
+fn take_kept(
+    alloc: Global,
+    index: &mut FootIndex,
+    number: u64,
+    kept: &LentKept<'_>,
+) -> Result<(), NoMemory>
+    ensures { OnOk result ((footprints : Footprints) → IsIndexOf index.old footprints → footprints number ≡ Some (lent_kept kept.now) →
+        IsIndexOf index.new (with_footprint footprints number None)) }
+{
+    match kept {
+        LentKept::Listed(listed) => {
+            take_listed(index, number, listed);
+            Ok(())
+        }
+        LentKept::Filled(filled) => take_filled(alloc, index, number, filled),
+    }
+}
+
+// Takes away what is kept of an edit, with a list of what its cells were, at its number.
+fn take_listed(index: &mut FootIndex, number: u64, kept: &LentFootprint<'_>)
     ensures { (footprints : Footprints) → IsIndexOf index.old footprints → footprints number ≡ Some (lent_footprint kept.now) →
         IsIndexOf index.new (with_footprint footprints number None) }
 {
     let (reads, runs) = kept.reads();
     index.take(number, reads, runs, kept.before());
+}
+
+// Takes away what is kept of a fill at its number, or nothing where no memory is left for the list of its cells.
+fn take_filled(
+    alloc: Global,
+    index: &mut FootIndex,
+    number: u64,
+    filled: &FilledCells<'_>,
+) -> Result<(), NoMemory>
+    ensures { OnOk result ((footprints : Footprints) → IsIndexOf index.old footprints →
+        footprints number ≡ Some (footprint (array_reads filled.now.array.now (filled_in filled.now)) (filled_in filled.now)) →
+        IsIndexOf index.new (with_footprint footprints number None)) }
+{
+    let Ok(cells) = filled.changes(alloc) else {
+        return Err(NoMemory);
+    };
+    match runs_of(&cells) {
+        Some(runs) => {
+            index.take_runs(number, &[filled.object()], runs);
+            Ok(())
+        }
+        None => Err(NoMemory),
+    }
+}
+
+// The number of the first edit after a place that needs one that wrote the cells, where the edits are gone through.
+fn first_to_need(entries: &[EditRecord], at: usize, before: &LentCells<'_>) -> Option<u64>
+    requires in_log { at < length entries.now }
+    requires few { length entries.now < 2 ^ 63 }
+    ensures { result ≡ first_from (blocks_undo (lent_cells before.now)) (at + 2) (drop (at + 1) (kept_all entries.now)) }
+{
+    let later = later_than(entries, at);
+    blockers::first_to_block_undo(later, at as u64 + 2, before)
 }
 
 fn later_than(entries: &[EditRecord], at: usize) -> &[EditRecord]

@@ -10,11 +10,12 @@ ghost use Rattle.wb_cells.specs.declared.cells.cell.Cell.TheVariants as cell;
 ghost use Rattle.wb_footprints.specs.Footprints.{Footprints, footprint, with_footprint};
 ghost use Rattle.wb_log.specs.declared.entry.Before.{Before};
 ghost use Rattle.wb_log.specs.Indexed.{Indexes};
-ghost use Rattle.wb_log.specs.Records.{lent_footprint, element_reads, cell_before};
+ghost use Rattle.wb_log.specs.Records.{lent_kept, element_reads, cell_before};
 
-use crate::entry::{Before, LentFootprint, SetRecord};
+use crate::entry::{Before, SetRecord};
 use crate::index::by_footprint::ByFootprint;
 use crate::index::in_force::InForce;
+use crate::lent::LentKept;
 use std::alloc::Global;
 
 /// Indexes over the edits in force.
@@ -45,9 +46,9 @@ impl EditIndex {
     }
 
     /// The edit at a place, which was in force, no longer is.
-    pub(crate) fn left_force(&mut self, at: usize, kept: &LentFootprint<'_>)
+    pub(crate) fn left_force(&mut self, at: usize, kept: &LentKept<'_>)
         requires { at < 2 ^ 63 }
-        ensures { (count : ℕ) (footprints : Footprints) → Indexes self.old count footprints → footprints (at + 1) ≡ Some (lent_footprint kept.now) →
+        ensures { (count : ℕ) (footprints : Footprints) → Indexes self.old count footprints → footprints (at + 1) ≡ Some (lent_kept kept.now) →
             Indexes self.new count (with_footprint footprints (at + 1) None) }
     {
         self.by_footprint.left_force(at, kept);
@@ -67,10 +68,10 @@ impl EditIndex {
     }
 
     /// The edit at a place, which was out of force, is in force again.
-    pub(crate) fn back_in_force(&mut self, at: usize, kept: &LentFootprint<'_>)
+    pub(crate) fn back_in_force(&mut self, at: usize, kept: &LentKept<'_>)
         requires { at < 2 ^ 63 }
         ensures { (count : ℕ) (footprints : Footprints) → Indexes self.old count footprints → footprints (at + 1) ≡ None →
-            Indexes self.new count (with_footprint footprints (at + 1) (Some (lent_footprint kept.now))) }
+            Indexes self.new count (with_footprint footprints (at + 1) (Some (lent_kept kept.now))) }
     {
         self.by_footprint.back_in_force(at, kept);
         self.in_force.back_in_force(at);

@@ -1,8 +1,8 @@
 //! A fill of several elements is made, and kept by the numbers that they were.
 
 ghost use Rattle.std.specs.Prelude.{◌≡◌, ◌≤◌, ◌++◌, true, Some, IfSome, OnOk, OnErr};
-ghost use Rattle.selective_undo.specs.Changes.{apply, inverse, AllOnce};
-ghost use Rattle.wb_cells.specs.Cells.{cell_cmp, saturating_add, count_of};
+ghost use Rattle.selective_undo.specs.Changes.{apply, inverse};
+ghost use Rattle.wb_cells.specs.Cells.{saturating_add, count_of};
 ghost use Rattle.wb_cells.specs.Reads.{patterns_of};
 ghost use Rattle.wb_cells.specs.Runs.{changes_in, in_first, packed_changes, numbered_entries};
 ghost use Rattle.wb_cells.specs.WellFormed.{IsWellFormed};
@@ -13,7 +13,6 @@ ghost use Rattle.wb_edit.specs.declared.edit.Edit.TheVariants.{Command as OneCom
 ghost use Rattle.wb_log.specs.Fills.{filled_cells, array_reads, values_in, values_of};
 ghost use Rattle.wb_log.specs.Records.{shown};
 
-use crate::cells_read::CellsRead;
 use crate::entry::{FillsRecord, LoggedEdit, RecordForm, UndoData};
 use crate::steps::making::is_same_pattern;
 use std::alloc::Global;
@@ -193,53 +192,21 @@ fn numbers_in(alloc: Global, before: &Changes) -> Option<Vec<i64>>
     Some(numbers)
 }
 
-// The changes of the elements of an array at the indices of a rectangle, by their numbers alone; `None` where one sets none, or no
-// memory is left.
-fn by_numbers(alloc: Global, array: &Name, on: &AnyRect, before: &Changes) -> Option<Changes>
-    requires { patterns_of before.now ≡ patterns_of (filled_cells array.now on.now) }
-    ensures { IfSome result (λ h. h ≡ before.now) }
-{
-    let numbers = numbers_in(alloc, before)?;
-    let row = IndexedRow::Elements(*array);
-    let mut held = Changes::new();
-    match held.push_run(
-        alloc,
-        RunForm::Numbers(RectangleNumbers::new(row, *on, numbers)),
-    ) {
-        Ok(()) => Some(held),
-        Err(_) => None,
-    }
-}
-
-// What the elements were, which are changed after a look at the array and then at each of them.
-fn cells_read(alloc: Global, array: &Name, on: &AnyRect, before: &Changes) -> Option<CellsRead>
-    requires cells { patterns_of before.now ≡ patterns_of (filled_cells array.now on.now) }
-    requires once { AllOnce cell_cmp before.now }
-    ensures { IfSome result (λ w. w ≡ record { footprint = array_reads array.now before.now; inverse = before.now }) }
-{
-    let held = by_numbers(alloc, array, on, before)?;
-    if held.len() == 0 {
-        return None;
-    }
-    Some(CellsRead::new(Pattern::One(AnyCell::new(Cell::Object(*array))), held))
-}
-
 // A fill in force, by the numbers that the elements were; `None` where one was none, or no memory is left.
 fn fills_form(alloc: Global, fills: &FillsRecord, before: &Changes) -> Option<RecordForm>
-    requires cells { patterns_of before.now ≡ patterns_of (filled_cells fills.now.array fills.now.on) }
-    requires once { AllOnce cell_cmp before.now }
+    requires { patterns_of before.now ≡ patterns_of (filled_cells fills.now.array fills.now.on) }
     ensures { IfSome result (λ f. shown f ≡ record {
       edit = OneCommand (command.Fill fills.now.array (asked_for.Ranges fills.now.on) fills.now.value);
       kept =
           Some (record { footprint = array_reads fills.now.array before.now; inverse = before.now });
     }) }
 {
-    let were = cells_read(alloc, &fills.array, &fills.on, before)?;
+    let numbers = numbers_in(alloc, before)?;
     let kept = FillsRecord {
         array: fills.array,
         on: fills.on,
         value: fills.value,
-        were: Some(were),
+        were: Some(numbers),
     };
     match Box::new(alloc, kept) {
         Ok(kept) => Some(RecordForm::Fills(kept)),

@@ -1,19 +1,26 @@
 ghost use Rattle.std.specs.Prelude.{◌≡◌, ℕ, ◌+◌, ◌-◌, ◌^◌, ◌<◌, length, None, OnOk, OnErr, IfOk, IfErr};
-ghost use Rattle.wb_cells.specs.Cells.{saturating_add};
+ghost use Rattle.selective_undo.specs.Changes.{apply, AllOnce};
+ghost use Rattle.wb_cells.specs.Cells.{cell_cmp, saturating_add, count_of};
+ghost use Rattle.wb_cells.specs.WellFormed.{IsWellFormed};
 ghost use Rattle.wb_footprints.specs.Footprints.{Footprints, with_footprint};
 ghost use Rattle.wb_log.specs.Indexed.{Indexes, IsIndexed};
 ghost use Rattle.wb_log.specs.Cascades.{IsFree};
 ghost use Rattle.wb_log.specs.Kept.{kept_in, MayUndo, TakenBack, LeavesWellFormed, refusal_of};
 ghost use Rattle.wb_log.specs.Past.{meant, out_of_force};
+ghost use Rattle.wb_log.specs.Records.{lent_kept};
 ghost use Rattle.wb_log.specs.Replies.{UndoReply, LastReply, SetsBack, LeavesOthers, Restores};
 
 use crate::entry::EditRecord;
 use crate::index::EditIndex;
+use crate::lent::LentKept;
 use crate::log::Log;
 use crate::steps::straight;
+use std::alloc::Global;
 use wb_arrays::Mover;
 use wb_book::Book;
+use wb_cells::Changes;
 use wb_edit::Refusal;
+use wb_range::NoMemory;
 
 /// Why the edit at a place may not be undone.
 fn undo_refusal(entries: &[EditRecord], index: &mut EditIndex, at: usize) -> Option<Refusal>
@@ -44,7 +51,7 @@ fn undo_refusal_listed(entries: &[EditRecord], index: &mut EditIndex, at: usize)
         None => Some(Refusal::NotInForce),
         Some(kept) => match index
             .by_footprint
-            .first_to_block_undo(entries, at, kept.before())
+            .first_to_block_undo(entries, at, &kept.cells())
         {
             Some(by) => Some(Refusal::Blocked(by)),
             None => None,
@@ -54,6 +61,7 @@ fn undo_refusal_listed(entries: &[EditRecord], index: &mut EditIndex, at: usize)
 
 /// Sets back what the edit at a place, which is in force, wrote. Want of threads is answered as want of memory.
 fn take_back<M: Mover>(
+    alloc: Global,
     book: &mut Book,
     entry: &mut EditRecord,
     index: &mut EditIndex,
@@ -78,11 +86,12 @@ fn take_back<M: Mover>(
     if straight::set_back(book, entry, index, at) {
         return Ok(1);
     }
-    take_back_listed(book, entry, index, at, mover)
+    take_back_listed(alloc, book, entry, index, at, mover)
 }
 
 /// Sets back what the edit at a place, which is in force, wrote, by the list of what the cells were.
 fn take_back_listed<M: Mover>(
+    alloc: Global,
     book: &mut Book,
     entry: &mut EditRecord,
     index: &mut EditIndex,
@@ -106,16 +115,53 @@ fn take_back_listed<M: Mover>(
 {
     let count = match entry.kept() {
         None => return Err(Refusal::NotInForce),
-        Some(kept) => match book.revert(kept.before(), mover) {
+        Some(kept) => match revert(alloc, book, &kept, mover) {
             Err(_) => return Err(Refusal::NoMemory),
-            Ok(()) => {
+            Ok(count) => {
                 index.left_force(at, &kept);
-                kept.before().count()
+                count
             }
         },
     };
     entry.end();
     Ok(count)
+}
+
+/// Sets back the cells of which this is kept: how many. Want of threads is answered as want of memory.
+fn revert<M: Mover>(
+    alloc: Global,
+    book: &mut Book,
+    kept: &LentKept<'_>,
+    mover: &M,
+) -> Result<usize, NoMemory>
+    requires { IsWellFormed (apply (lent_kept kept.now).touched book.old.cells) }
+    ensures count { IfOk result (λ n. n ≡ count_of (lent_kept kept.now).touched) }
+    ensures cells { OnOk result (book.new.cells ≡ apply (lent_kept kept.now).touched book.old.cells) }
+    ensures writes { OnOk result (book.new.writes ≡ saturating_add book.old.writes (count_of (lent_kept kept.now).touched)) }
+    ensures err { OnErr result (book.new ≡ book.old) }
+{
+    match kept {
+        LentKept::Listed(listed) => revert_list(book, listed.before(), mover),
+        LentKept::Filled(filled) => match filled.changes(alloc) {
+            Err(why) => Err(why),
+            Ok(before) => revert_list(book, &before, mover),
+        },
+    }
+}
+
+/// Sets back the cells of a list: how many.
+fn revert_list<M: Mover>(book: &mut Book, before: &Changes, mover: &M) -> Result<usize, NoMemory>
+    requires once { AllOnce cell_cmp before.now }
+    requires well_formed { IsWellFormed (apply before.now book.old.cells) }
+    ensures count { IfOk result (λ n. n ≡ count_of before.now) }
+    ensures cells { OnOk result (book.new.cells ≡ apply before.now book.old.cells) }
+    ensures writes { OnOk result (book.new.writes ≡ saturating_add book.old.writes (count_of before.now)) }
+    ensures err { OnErr result (book.new ≡ book.old) }
+{
+    match book.revert(before, mover) {
+        Err(_) => Err(NoMemory),
+        Ok(()) => Ok(before.count()),
+    }
 }
 
 impl Log {
@@ -175,6 +221,7 @@ impl Log {
         ensures err { OnErr result (self.new ≡ self.old) }
     {
         take_back(
+            self.alloc,
             &mut self.book,
             &mut self.entries[at],
             &mut self.index,

@@ -5,11 +5,12 @@ use Rattle.selective_undo.specs.declared.Change.{Change}
 use Rattle.wb_cells.specs.declared.cells.cell.Cell.{Cell}
 use Rattle.wb_cells.specs.declared.cells.value.Value.{Value}
 use Rattle.wb_cells.specs.Cells.{cell_cmp}
+use Rattle.wb_log.specs.Records.{lent_cells}
 use Rattle.wb_log.proofs.blockers.is_changed.Goals as goal
 
 pub returns-then-is_same : goal.returns-then-is_same
 returns-then-is_same c =
-    let xs = c.args.wrote.now in
+    let xs = lent_cells c.args.wrote.now in
     let k = c.loop-at.at in
     let low : k < length xs = omega (arith, c.loop-at-test.true, c.len-at-end.ensures) in
     let d : Change Cell Value = record { cell = c.cell_near.result; value = None } in
@@ -19,7 +20,7 @@ returns-then-is_same c =
 
 pub loop-at-preserved : goal.loop-at-preserved
 loop-at-preserved c =
-    let xs = c.args.wrote.now in
+    let xs = lent_cells c.args.wrote.now in
     let k = c.loop-at.at in
     let low : k < length xs = omega (arith, c.loop-at-test.true, c.len-at-end.ensures) in
     let d : Change Cell Value = record { cell = c.cell_near.result; value = None } in

@@ -1,15 +1,19 @@
-use Rattle.std.proofs.Common.{◌++◌, sym, ap, ◌∙◌}
+use Rattle.std.proofs.Common.{[], ◌∷◌, sym, ap, ◌∙◌}
 use Rattle.selective_undo.specs.Log.{meets_any}
-use Rattle.wb_cells.specs.Reads.{all_read}
+use Rattle.wb_cells.specs.declared.cells.cell.Cell.TheVariants.{Object}
+use Rattle.wb_cells.specs.declared.cells.pattern.Pattern.TheVariants.{One}
+use Rattle.wb_log.specs.Fills.{filled_in}
 use Rattle.wb_log.specs.Kept.{footprint}
-use Rattle.wb_log.specs.Records.{lent_footprint}
-use Rattle.wb_log.proofs.Alike.{meets_alike}
+use Rattle.wb_log.specs.Records.{lent_kept, lent_cells}
+use Rattle.wb_log.proofs.Alike.{written_met}
 use Rattle.wb_log.proofs.blockers.is_met.Goals as goal
 
-pub returns : goal.returns
-returns c =
-    let k = lent_footprint c.args.kept.now in
-    let named = c.reads.result.0.now ++ all_read c.reads.result.1.now in
-    let bs = c.before-2.result.now in
-    c.meets_any.ensures ∙ sym (meets_alike k.reads named bs c.args.cells.now c.reads.ensures) ∙
-    ap (λ xs. meets_any (footprint k.reads xs) c.args.cells.now) c.before-2.ensures.same
+pub returns-in-Filled : goal.returns-in-Filled
+returns-in-Filled c =
+    let f = c.in-Filled.filled in
+    let bs = filled_in f in
+    let cs = lent_cells c.args.cells.now in
+    c.meets_any.ensures
+    ∙ ap (λ p. meets_any (footprint (p ∷ []) bs) cs) c.object.ensures
+    ∙ sym (written_met (One (Object f.array.now) ∷ []) bs cs)
+    ∙ ap (λ k. meets_any (lent_kept k) cs) (sym c.in-Filled.is)

@@ -1,7 +1,8 @@
 use Rattle.std.proofs.Common.{[], ◌∷◌, refl}
 use Rattle.wb_footprints.specs.declared.places.marking.Marking.TheVariants.{Families}
 use Rattle.wb_footprints.specs.Places.{place_marked}
-use Rattle.wb_footprints.specs.Footprints.{at_cell, touched_by, read_by, read_at, footprint}
+use Rattle.wb_footprints.specs.Footprints.{at_cell, touched_by, footprint}
+use Rattle.wb_footprints.proofs.ReadMarks.{reads_taken}
 use Rattle.wb_footprints.proofs.ReadPlaces.{or_false}
 use Rattle.wb_footprints.proofs.Taking.{taken}
 use Rattle.wb_footprints.proofs.foot_index.FootIndex.take_one.Goals as goal
@@ -12,6 +13,5 @@ returns c = λ footprints before h had.
     record {
       touched = taken touched_by (λ q. refl) footprints (at_cell Families c.args.cell.now) c.args.number (place_marked c.args.self.now.touched)
           (place_marked c.unmark.new.marks) f (λ q. or_false (at_cell Families c.args.cell.now q)) had h.touched c.unmark.ensures;
-      read = taken read_by (λ q. refl) footprints (read_at c.args.reads.now) c.args.number (place_marked c.args.self.now.read)
-          (place_marked c.unread_each.new.marks) f (λ q. refl) had h.read c.unread_each.ensures;
+      read = reads_taken footprints c.args.number c.args.self.now.read c.unread_each.new.marks f had h.read c.unread_each.ensures;
     }

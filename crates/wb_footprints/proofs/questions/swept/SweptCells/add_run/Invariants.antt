@@ -1,6 +1,6 @@
 use Rattle.std.proofs.Common.{ℕ}
 use Rattle.wb_footprints.specs.declared.foot_index.FootIndex.{FootIndex}
-use Rattle.wb_footprints.specs.declared.marks.numbers.Numbers.{Numbers}
+use Rattle.wb_footprints.specs.Numbers.{Numbers}
 use Rattle.wb_footprints.specs.Swept.{AreSwept, AreWaiting}
 use Rattle.wb_footprints.proofs.questions.swept.SweptCells.add_run.Given as goal
 

@@ -1,19 +1,28 @@
-use Rattle.std.proofs.Common.{refl, ap, ◌∙◌, ◌+◌}
+use Rattle.std.proofs.Common.{refl, ap, sym, ◌∙◌, ◌+◌, drop}
 use Rattle.selective_undo.specs.Log.{blocks_undo, first_from}
-use Rattle.wb_log.specs.Kept.{by_number, kept_in, kept_all}
-use Rattle.wb_log.proofs.Entries.{drop-map}
+use Rattle.wb_log.specs.Fills.{filled_in}
+use Rattle.wb_log.specs.Kept.{by_number, kept_all}
+use Rattle.wb_log.specs.Records.{lent_cells}
 use Rattle.wb_log.proofs.Entered.{first_is, index_whole}
 use Rattle.wb_log.proofs.index.by_footprint.ByFootprint.first_to_block_undo.Goals as goal
 
-pub returns-then-self-entries-clause-first : goal.returns-then-self-entries-clause-first
-returns-then-self-entries-clause-first c =
-    let p = blocks_undo c.args.before.now in
-    c.first_to_block_undo.ensures ∙ ap (λ ls. first_from p (c.args.at + 2) (kept_all ls)) c.later_than-later.ensures ∙
-    ap (first_from p (c.args.at + 2)) (drop-map kept_in c.args.entries.now (c.args.at + 1))
-
-pub returns-clause-first : goal.returns-clause-first
-returns-clause-first c =
+pub returns-in-Listed-clause-first : goal.returns-in-Listed-clause-first
+returns-in-Listed-clause-first c =
     let es = c.args.entries.now in
+    let at = c.args.at in
     let now = c.fill.new.self in
-    first_is es c.args.at (blocks_undo c.args.before.now) refl c.first_to_block_undo-2.result
-    (c.first_to_block_undo-2.ensures.least (by_number es) (index_whole now.index es now.entered c.if-self-entries.false c.fill.ensures.indexed.index))
+    let xs = c.in-Listed.cells.now in
+    first_is es at (blocks_undo xs) refl c.first_to_block_undo.result
+    (c.first_to_block_undo.ensures.least (by_number es) (index_whole now.index es now.entered c.if-self-entries.false c.fill.ensures.indexed.index))
+    ∙ ap (λ cs. first_from (blocks_undo (lent_cells cs)) (at + 2) (drop (at + 1) (kept_all es))) (sym c.in-Listed.is)
+
+pub returns-in-Ok-clause-first : goal.returns-in-Ok-clause-first
+returns-in-Ok-clause-first c =
+    let es = c.args.entries.now in
+    let at = c.args.at in
+    let now = c.fill.new.self in
+    let xs = c.in-Ok.cells in
+    first_is es at (blocks_undo xs) refl c.first_to_block_undo-in-Ok.result
+    (c.first_to_block_undo-in-Ok.ensures.least (by_number es) (index_whole now.index es now.entered c.if-self-entries.false c.fill.ensures.indexed.index))
+    ∙ ap (λ ys. first_from (blocks_undo ys) (at + 2) (drop (at + 1) (kept_all es))) c.in-Ok.ensures.same
+    ∙ ap (λ cs. first_from (blocks_undo (lent_cells cs)) (at + 2) (drop (at + 1) (kept_all es))) (sym c.in-Filled.is)

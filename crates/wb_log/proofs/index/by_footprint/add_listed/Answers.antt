@@ -4,7 +4,7 @@ use Rattle.wb_cells.specs.Reads.{all_read}
 use Rattle.wb_footprints.specs.Footprints.{IsIndexOf, footprint, with_footprint}
 use Rattle.wb_log.specs.Records.{lent_footprint}
 use Rattle.wb_log.proofs.Alike.{index_alike}
-use Rattle.wb_log.proofs.index.by_footprint.add_kept.Goals as goal
+use Rattle.wb_log.proofs.index.by_footprint.add_listed.Goals as goal
 
 pub returns-clause-ok : goal.returns-clause-ok
 returns-clause-ok c =

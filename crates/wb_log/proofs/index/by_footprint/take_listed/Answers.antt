@@ -4,7 +4,7 @@ use Rattle.wb_footprints.specs.Footprints.{footprint, with_footprint}
 use Rattle.wb_log.specs.Records.{lent_footprint}
 use Rattle.wb_log.proofs.Alike.{put_alike, again, at_number}
 use Rattle.wb_log.proofs.Lists.{index_like}
-use Rattle.wb_log.proofs.index.by_footprint.take_kept.Goals as goal
+use Rattle.wb_log.proofs.index.by_footprint.take_listed.Goals as goal
 
 pub returns : goal.returns
 returns c = λ footprints was had.
