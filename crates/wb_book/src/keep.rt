@@ -43,12 +43,16 @@ fn inside(cells: &StoredCells, domain: &Name, index: &AnyIndex) -> Option<Value>
     }
 }
 
-// The element of an array at an index.
-fn element(arrays: &BTreeMap<Name, Elements>, array: &Name, index: &AnyIndex) -> Option<i64>
+/// The element of an array at an index.
+pub(crate) fn element(
+    arrays: &BTreeMap<Name, Elements>,
+    array: &Name,
+    index: &AnyIndex,
+) -> Option<i64>
     ensures { result ≡ element_in arrays.now.entries array.now index.now }
 {
     match arrays.get(array) {
-        Some(elements) => elements.get_from(index, 0).0,
+        Some(elements) => elements.find(index).0,
         None => None,
     }
 }
@@ -153,7 +157,7 @@ fn replace_in(elements: &mut Elements, index: &AnyIndex, value: &i64) -> Option<
     ensures elements { elements.new ≡ (set_value (is_at (index_cmp index.now)) elements.old.0 value.now, elements.old.1) }
 {
     let number = *value;
-    let (was, place) = elements.get_from(index, 0);
+    let (was, place) = elements.find(index);
     match was {
         Some(_) => {
             elements.set_near(index, number, place);

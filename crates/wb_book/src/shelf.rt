@@ -80,6 +80,15 @@ impl Book {
         keep::look(&self.cells, &self.arrays, cell)
     }
 
+    /// The element of an array at an index, if there is one: what stands in its cell, with no value made of it.
+    pub fn element(&self, array: &Name, index: &AnyIndex) -> Option<i64>
+        ensures { map.get self.now.cells (Element array.now index.now) ≡ option_map Number result }
+    {
+        // For the proof: the invariant, which speaks of the cells too.
+        let _ = &self.cells;
+        keep::element(&self.arrays, array, index)
+    }
+
     /// What a look at a pattern shows: the cells that it names and that are there, with their values, in their order.
     pub fn seen(&self, alloc: Global, pattern: &Pattern) -> Result<Vec<(Cell, Value)>, NoMemory>
         ensures { IfOk result (λ v. v.items ≡ seen self.now.cells pattern.now) }

@@ -22,7 +22,7 @@ use crate::block::ChangeBlock;
 use crate::filled::filled;
 use crate::made::made;
 use crate::piece::{Pairs, points_on, texts_on};
-use crate::ranged::are_at;
+use crate::ranged::{are_at, likely_place};
 use std::alloc::Global;
 use std::collections::BTreeMap;
 use std::marker::Model;
@@ -83,6 +83,17 @@ impl Elements {
             ElementsForm::Rank2(pieces) => value_near(pieces, index, near),
             ElementsForm::Rank3(pieces) => value_near(pieces, index, near),
             ElementsForm::Text(pieces) => value_near(pieces, index, near),
+        }
+    }
+
+    /// The element at an index, and the place to pass for the index after it. Where the ranges of the elements are known, it is
+    /// looked for first where it stands among these: so there is no search where all elements lie on one locale.
+    pub fn find(&self, index: &AnyIndex) -> (Option<i64>, usize)
+        ensures { result.0 ≡ value_at index_cmp self.now.0 index.now }
+    {
+        match &self.ranges {
+            None => self.get_from(index, 0),
+            Some(ranges) => self.get_from(index, likely_place(ranges, index)),
         }
     }
 

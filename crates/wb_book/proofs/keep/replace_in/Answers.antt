@@ -22,6 +22,6 @@ returns-in-None-clause-elements c =
     let p = c.args.elements.now in
     let i = c.args.index.now in
     let v = c.args.value.now in
-    let none : value_at index_cmp p.0 i ≡ None = sym c.get_from-was.ensures ∙ c.in-None.is in
+    let none : value_at index_cmp p.0 i ≡ None = sym c.find-was.ensures ∙ c.in-None.is in
     let stays = set_value-none (is_at (index_cmp i)) p.0 v none in
     λ k. (sym stays k, p.1)
