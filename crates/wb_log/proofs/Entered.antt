@@ -64,6 +64,11 @@ all_up_to n f none m = shown (nat_lt n m) (f m) (λ e. none m (above n m e))
 pub not_0 : (k : ℕ) (f : Footprints) (o : Option (Footprint workbook)) → f 0 ≡ None → with_footprint f (k + 1) o 0 ≡ None
 not_0 k f o none = let apart : (k + 1 == 0) ≡ false = grind (arith, nat_tests) in rw apart none
 
+-- up to 0 there is none
+pub none_entered : (f : Footprints) (k : ℕ) → f 0 ≡ None → false ≡ is_some (up_to 0 f k)
+none_entered f zero none = sym (ap is_some none)
+none_entered f (suc k) none = let past : nat_lt 0 (suc k) ≡ true = grind (arith, nat_tests) in rw past refl
+
 -- the next number has no footprint yet
 pub none_next : (e : ℕ) (f : Footprints) → up_to e f (e + 1) ≡ None
 none_next e f = let past : nat_lt e (e + 1) ≡ true = grind (arith, nat_tests) in rw past refl
@@ -163,6 +168,11 @@ like x c d f g more e h =
         from_1 = sym (e 0 (omega arith)) ∙ h.in_force.from_1;
         within = omega (arith, h.in_force.within, more);
         numbers = λ k. h.in_force.numbers k ∙ ap is_some (same x.in_force.entered h.in_force.within k);
+        bound = record {
+          told = omega (arith, h.in_force.bound.told, more);
+          bound = h.in_force.bound.bound;
+          above = λ k high low. sym (e k (omega (arith, low, h.in_force.bound.told))) ∙ h.in_force.bound.above k high low;
+        };
       };
     }
   where

@@ -7,6 +7,7 @@ pub mod Valid
 pub mod Firsts
 pub mod Lists
 pub mod Entered
+pub mod Bounded
 pub mod Granted
 pub mod Sweeps
 pub mod Depending

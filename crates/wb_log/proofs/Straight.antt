@@ -20,7 +20,7 @@ use Rattle.wb_edit.specs.Writes.{set_to}
 use Rattle.wb_edit.proofs.Trees.{seen_value}
 use Rattle.wb_log.specs.Records.{element_reads}
 
-key_fits : (kind : Kind) (i : Index) → is_key kind i ≡ true → fits kind i ≡ Ok tt
+pub key_fits : (kind : Kind) (i : Index) → is_key kind i ≡ true → fits kind i ≡ Ok tt
 key_fits kind i e = rw (e, fits) refl
 
 some_there : (o : Option Value) → IsSome o → is_there o ≡ Ok tt

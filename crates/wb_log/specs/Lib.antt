@@ -5,6 +5,7 @@ pub mod Wants
 pub mod Kept
 pub mod Sets
 pub mod Fills
+pub mod Places
 pub mod Records
 pub mod Needed
 pub mod Indexed

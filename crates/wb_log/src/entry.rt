@@ -19,6 +19,7 @@ ghost use Rattle.wb_log.specs.Sets.{NameAlike};
 use crate::array_sets::ArraySets;
 use crate::cells_were::CellsWere;
 use crate::filled_cells::FilledCells;
+use crate::kept_place::KeptPlace;
 use crate::lent::LentKept;
 use crate::undone::form_undone;
 use std::alloc::Global;
@@ -67,11 +68,19 @@ pub(crate) enum Was {
     Nothing,
 }
 
+/// A new value of an element.
+#[derive(Clone, Copy)]
+pub(crate) struct ElementSet {
+    pub(crate) array: Name,
+    pub(crate) place: AnyIndex,
+    pub(crate) value: i64,
+}
+
 /// A new value of an element that was there, and what it was, while the edit is in force.
 #[derive(Drop)]
 pub(crate) struct SetRecord {
     pub(crate) array: Name,
-    pub(crate) place: AnyIndex,
+    pub(crate) place: KeptPlace,
     pub(crate) value: i64,
     pub(crate) was: Was,
 }
@@ -99,7 +108,7 @@ pub(crate) struct IrvRecord {
 #[derive(Drop)]
 pub(crate) struct MemberRecord {
     pub(crate) domain: Name,
-    pub(crate) place: AnyIndex,
+    pub(crate) place: KeptPlace,
     pub(crate) comes: bool,
     pub(crate) was: Was,
 }
@@ -296,7 +305,7 @@ fn element_pattern(array: &Name, place: &AnyIndex) -> Pattern
     Pattern::One(AnyCell::new(Cell::Element(*array, *place)))
 }
 
-impl SetRecord {
+impl ElementSet {
     /// The edit.
     pub(crate) fn edit(&self) -> Edit
         ensures { result ≡ OneCommand (command.Set self.now.array self.now.place self.now.value) }
@@ -319,6 +328,36 @@ impl SetRecord {
             object_pattern(&self.array),
             element_pattern(&self.array, &self.place),
         ]
+    }
+}
+
+impl SetRecord {
+    /// A new value of an element, out of force; `NoMemory` where none is left for its index.
+    pub(crate) fn undone(
+        alloc: Global,
+        array: &Name,
+        place: &AnyIndex,
+        value: &i64,
+    ) -> Result<SetRecord, NoMemory>
+        ensures { IfOk result (λ e. e ≡ record { array = array.now; place = place.now; value = value.now; was = Was.Untold }) }
+    {
+        Ok(SetRecord {
+            array: *array,
+            place: KeptPlace::new(alloc, place)?,
+            value: *value,
+            was: Was::Untold,
+        })
+    }
+
+    /// What the edit does.
+    pub(crate) fn element(&self) -> ElementSet
+        ensures { result ≡ record { array = self.now.array; place = self.now.place; value = self.now.value } }
+    {
+        ElementSet {
+            array: self.array,
+            place: self.place.index(),
+            value: self.value,
+        }
     }
 }
 
@@ -378,10 +417,11 @@ impl MemberRecord {
     pub(crate) fn edit(&self) -> Edit
         ensures { result ≡ member_edit self.now.comes self.now.domain self.now.place }
     {
+        let place = self.place.index();
         if self.comes {
-            Edit::Command(Command::Add(self.domain, self.place))
+            Edit::Command(Command::Add(self.domain, place))
         } else {
-            Edit::Command(Command::Remove(self.domain, self.place))
+            Edit::Command(Command::Remove(self.domain, place))
         }
     }
 
@@ -389,7 +429,7 @@ impl MemberRecord {
     pub(crate) fn cell(&self) -> Cell
         ensures { result ≡ cell.Member self.now.domain self.now.place }
     {
-        Cell::Member(self.domain, self.place)
+        Cell::Member(self.domain, self.place.index())
     }
 
     /// What the edit reads, where nothing is bound to the domain and it has no parent to be asked.
@@ -481,7 +521,7 @@ impl RecordForm {
         ensures { IfOk result (λ e. e ≡ (shown self.now).edit) }
     {
         match self {
-            RecordForm::Set(element) => Ok(element.edit()),
+            RecordForm::Set(record) => Ok(record.element().edit()),
             RecordForm::Copy(copied) => Ok(copied.edit()),
             RecordForm::Irv(implicit) => Ok(implicit.edit()),
             RecordForm::Member(member) => Ok(member.edit()),
@@ -495,19 +535,16 @@ impl RecordForm {
 
 impl EditRecord {
     /// A new value of an element, in force, by what the element was.
-    pub(crate) fn set(array: &Name, place: &AnyIndex, value: &i64, was: &i64) -> EditRecord
+    pub(crate) fn set(element: SetRecord, was: &i64) -> EditRecord
         ensures { result ≡ record {
-          edit = OneCommand (command.Set array.now place.now value.now);
-          kept = Some (record { footprint = element_reads array.now place.now; inverse = cell_before (cell.Element array.now place.now) (before.Number was.now) });
+          edit = OneCommand (command.Set element.array element.place element.value);
+          kept = Some (record { footprint = element_reads element.array element.place; inverse = cell_before (cell.Element element.array element.place) (before.Number was.now) });
         } }
     {
+        let mut element = element;
+        element.was = Was::Number(*was);
         EditRecord {
-            form: RecordForm::Set(SetRecord {
-                array: *array,
-                place: *place,
-                value: *value,
-                was: Was::Number(*was),
-            }),
+            form: RecordForm::Set(element),
         }
     }
 
@@ -526,7 +563,7 @@ impl EditRecord {
         ensures { IfOk result (λ e. lent_edit e ≡ self.now.edit) }
     {
         match &self.form {
-            RecordForm::Set(element) => Ok(LentEdit::Own(element.edit())),
+            RecordForm::Set(record) => Ok(LentEdit::Own(record.element().edit())),
             RecordForm::Copy(copied) => Ok(LentEdit::Own(copied.edit())),
             RecordForm::Irv(implicit) => Ok(LentEdit::Own(implicit.edit())),
             RecordForm::Member(member) => Ok(LentEdit::Own(member.edit())),
@@ -576,30 +613,25 @@ impl EditRecord {
     pub(crate) fn element_set(&self) -> Option<(Cell, Before)>
         ensures { IfSome result (λ r. option_map (λ k. k.inverse) self.now.kept ≡ Some (cell_before r.0 r.1)) }
     {
-        let RecordForm::Set(element) = &self.form else {
+        let RecordForm::Set(record) = &self.form else {
             return None;
         };
-        match element.was.before() {
+        match record.was.before() {
             None => None,
-            Some(was) => Some((element.cell(), was)),
+            Some(was) => Some((record.element().cell(), was)),
         }
     }
 
     /// The new value of an element that the edit is, if that is all that it is, and it is out of force.
-    pub(crate) fn set_undone(&self) -> Option<SetRecord>
+    pub(crate) fn set_undone(&self) -> Option<ElementSet>
         ensures { IfSome result (λ e. self.now ≡ record { edit = OneCommand (command.Set e.array e.place e.value); kept = None }) }
     {
-        let RecordForm::Set(element) = &self.form else {
+        let RecordForm::Set(record) = &self.form else {
             return None;
         };
-        match element.was.before() {
+        match record.was.before() {
             Some(_) => None,
-            None => Some(SetRecord {
-                array: element.array,
-                place: element.place,
-                value: element.value,
-                was: Was::Untold,
-            }),
+            None => Some(record.element()),
         }
     }
 
@@ -608,12 +640,15 @@ impl EditRecord {
         ensures { option_map lent_kept result ≡ kept_in self.now }
     {
         match &self.form {
-            RecordForm::Set(element) => match element.was.before() {
+            RecordForm::Set(record) => match record.was.before() {
                 None => None,
-                Some(was) => Some(LentKept::Listed(LentFootprint::Set(
-                    element.reads(),
-                    set_back(element.cell(), &was),
-                ))),
+                Some(was) => {
+                    let element = record.element();
+                    Some(LentKept::Listed(LentFootprint::Set(
+                        element.reads(),
+                        set_back(element.cell(), &was),
+                    )))
+                }
             },
             RecordForm::Copy(copied) => match copied.was.before() {
                 None => None,

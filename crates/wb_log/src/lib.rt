@@ -10,6 +10,7 @@ mod cells_were;
 mod entry;
 mod filled_cells;
 mod index;
+mod kept_place;
 mod lent;
 mod log;
 mod steps;

@@ -2,6 +2,7 @@
 
 ghost use Rattle.std.specs.Prelude.{◌≡◌, ◌<◌, [], Some, IfOk, length, option_map, slice_get};
 ghost use Rattle.selective_undo.specs.History.{replay, IsLegal};
+ghost use Rattle.wb_cells.specs.WellFormed.{IsWellFormed};
 ghost use Rattle.wb_edit.specs.Edits.{note_of};
 ghost use Rattle.wb_log.specs.Past.{meant};
 ghost use Rattle.wb_log.specs.Records.{lent_edit};
@@ -77,6 +78,7 @@ impl Log {
     /// The workbook: what the edits in force make of an empty one, each accepted in its place.
     pub fn book(&self) -> &Book
         ensures legal { IsLegal (meant self.now.entries) }
+        ensures formed { IsWellFormed result.now.cells }
         ensures cells { result.now.cells ≡ replay (meant self.now.entries) }
         ensures writes { result.now.writes ≡ self.now.writes }
     {

@@ -11,21 +11,39 @@ use crate::entry::{
     CopyRecord, FillRecord, FillsRecord, IrvRecord, LoggedEdit, MemberRecord, RecordForm,
     SetRecord, SetsRecord, Was,
 };
+use crate::kept_place::KeptPlace;
 use std::alloc::Global;
 use wb_cells::{AnyIndex, AnyRect, Name};
 use wb_edit::{AskedRectangle, Command, Edit};
 use wb_range::NoMemory;
 
 // An index that comes to a domain, or leaves it, out of force.
-fn member_undone(domain: &Name, place: &AnyIndex, comes: bool) -> RecordForm
-    ensures { shown result ≡ record { edit = member_edit comes domain.now place.now; kept = None } }
+fn member_undone(
+    alloc: Global,
+    domain: &Name,
+    place: &AnyIndex,
+    comes: bool,
+) -> Result<RecordForm, NoMemory>
+    ensures { IfOk result (λ f. shown f ≡ record { edit = member_edit comes domain.now place.now; kept = None }) }
 {
-    RecordForm::Member(MemberRecord {
+    Ok(RecordForm::Member(MemberRecord {
         domain: *domain,
-        place: *place,
+        place: KeptPlace::new(alloc, place)?,
         comes,
         was: Was::Untold,
-    })
+    }))
+}
+
+// A new value of an element, out of force.
+fn set_undone(
+    alloc: Global,
+    array: &Name,
+    place: &AnyIndex,
+    value: &i64,
+) -> Result<RecordForm, NoMemory>
+    ensures { IfOk result (λ f. shown f ≡ record { edit = OneCommand (command.Set array.now place.now value.now); kept = None }) }
+{
+    Ok(RecordForm::Set(SetRecord::undone(alloc, array, place, value)?))
 }
 
 // A fill at the one index of a rectangle, out of force.
@@ -130,12 +148,9 @@ pub(crate) fn form_undone(alloc: Global, edit: Edit) -> Result<RecordForm, NoMem
     ensures { IfOk result (λ f. shown f ≡ record { edit = edit; kept = None }) }
 {
     match &edit {
-        Edit::Command(Command::Set(array, place, value)) => Ok(RecordForm::Set(SetRecord {
-            array: *array,
-            place: *place,
-            value: *value,
-            was: Was::Untold,
-        })),
+        Edit::Command(Command::Set(array, place, value)) => {
+            set_undone(alloc, array, place, value)
+        }
         Edit::Command(Command::Irv(array, value)) => Ok(RecordForm::Irv(IrvRecord {
             array: *array,
             value: *value,
@@ -152,8 +167,8 @@ pub(crate) fn form_undone(alloc: Global, edit: Edit) -> Result<RecordForm, NoMem
             };
             Ok(RecordForm::Copy(Box::new(alloc, copied)?))
         }
-        Edit::Command(Command::Add(domain, place)) => Ok(member_undone(domain, place, true)),
-        Edit::Command(Command::Remove(domain, place)) => Ok(member_undone(domain, place, false)),
+        Edit::Command(Command::Add(domain, place)) => member_undone(alloc, domain, place, true),
+        Edit::Command(Command::Remove(domain, place)) => member_undone(alloc, domain, place, false),
         Edit::Command(Command::Fill(array, asked, value)) => match ranges_of_some(asked) {
             Some(on) => fill_undone(alloc, array, &on, *value),
             None => whole_undone(alloc, edit),

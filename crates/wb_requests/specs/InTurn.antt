@@ -27,6 +27,10 @@ set_data a i v = object (member (codes "a") a (member (codes "i") i (member (cod
 abbrev pub get_data : Data → Data → Data
 get_data a i = object (member (codes "a") a (member (codes "i") i (member (codes "op") (string (codes "get")) no_members)))
 
+-- an undo of the latest edit
+abbrev pub undo_data : Data
+undo_data = object (member (codes "op") (string (codes "undo")) no_members)
+
 -- the name that a value is
 abbrev pub name_in : Data → Result Name Refusal
 name_in d = do

@@ -15,7 +15,7 @@ ghost use Rattle.wb_log.specs.Records.{lent_footprint, lent_kept, lent_cells, el
 ghost use Rattle.wb_log.specs.Needed.{AreFromFootprints};
 
 use crate::blockers;
-use crate::entry::{Before, EditRecord, LentFootprint, SetRecord, object_pattern};
+use crate::entry::{Before, EditRecord, ElementSet, LentFootprint, object_pattern};
 use crate::filled_cells::{FilledCells, runs_of};
 use crate::lent::{LentCells, LentKept};
 use crate::sweep::needing;
@@ -129,7 +129,7 @@ impl ByFootprint {
         &mut self,
         entries: &[EditRecord],
         at: usize,
-        element: &SetRecord,
+        element: &ElementSet,
     ) -> Option<u64>
         requires in_log { at < length entries.now }
         requires few { length entries.now < 2 ^ 63 }
@@ -208,7 +208,7 @@ impl ByFootprint {
     }
 
     /// The edit at a place, a new value of an element, is out of force.
-    pub(crate) fn set_left_force(&mut self, at: usize, element: &SetRecord, was: &Before)
+    pub(crate) fn set_left_force(&mut self, at: usize, element: &ElementSet, was: &Before)
         requires { at < 2 ^ 63 }
         ensures { (count : ℕ) (footprints : Footprints) → IsByFootprint self.old count footprints →
             footprints (at + 1) ≡ Some (footprint (element_reads element.now.array element.now.place)
@@ -236,7 +236,7 @@ impl ByFootprint {
     }
 
     /// The edit at a place, a new value of an element, is in force again. Where no memory is left for it, none has entered.
-    pub(crate) fn set_back_in_force(&mut self, at: usize, element: &SetRecord)
+    pub(crate) fn set_back_in_force(&mut self, at: usize, element: &ElementSet)
         requires { at < 2 ^ 63 }
         ensures { (was : Before) (count : ℕ) (footprints : Footprints) → IsByFootprint self.old count footprints → footprints (at + 1) ≡ None →
             IsByFootprint self.new count (with_footprint footprints (at + 1) (Some (footprint (element_reads element.now.array element.now.place)
@@ -390,7 +390,7 @@ fn later_than(entries: &[EditRecord], at: usize) -> &[EditRecord]
 
 // The number of the first edit after a place that needs, or is needed by, a new value of an element that is there, where the edits
 // are gone through.
-fn first_listed(entries: &[EditRecord], at: usize, element: &SetRecord) -> Option<u64>
+fn first_listed(entries: &[EditRecord], at: usize, element: &ElementSet) -> Option<u64>
     requires in_log { at < length entries.now }
     requires few { length entries.now < 2 ^ 63 }
     ensures { result ≡ redo_blocker entries.now at (element_reads element.now.array element.now.place)

@@ -8,16 +8,18 @@ ghost use Rattle.wb_log.specs.Indexed.{AreInForce};
 ghost use Rattle.wb_log.specs.Kept.{IsLatest, by_number, kept_in, kept_all};
 
 use crate::entry::EditRecord;
+use crate::index::bound::LatestBound;
 use std::alloc::Global;
 use wb_footprints::Numbers;
 use wb_range::NoMemory;
 
-/// Which of the first `entered` edits are in force.
+/// Which of the first `entered` edits are in force, and where the latest may be.
 #[derive(Drop)]
 pub(crate) struct InForce {
     alloc: Global,
     numbers: Numbers,
     entered: usize,
+    bound: LatestBound,
 }
 
 impl InForce {
@@ -25,10 +27,13 @@ impl InForce {
     pub(crate) fn new(alloc: Global) -> InForce
         ensures { (count : ℕ) (footprints : Footprints) → footprints 0 ≡ None → AreInForce result count footprints }
     {
+        let numbers = Numbers::new(alloc);
+        let bound = LatestBound::new();
         InForce {
             alloc,
-            numbers: Numbers::new(alloc),
+            numbers,
             entered: 0,
+            bound,
         }
     }
 
@@ -69,6 +74,19 @@ impl InForce {
         ensures latest { IsLatest (kept_all entries.now) result }
         ensures indexed { AreInForce self.new (length entries.now) (by_number entries.now) }
     {
+        match self.bound.latest(entries) {
+            Some(at) => Some(at),
+            None => self.latest_of_all(entries),
+        }
+    }
+
+    // The place of the latest edit in force, where it may be any.
+    fn latest_of_all(&mut self, entries: &[EditRecord]) -> Option<usize>
+        requires few { length entries.now < 2 ^ 63 }
+        requires indexed { AreInForce self.old (length entries.now) (by_number entries.now) }
+        ensures latest { IsLatest (kept_all entries.now) result }
+        ensures indexed { AreInForce self.new (length entries.now) (by_number entries.now) }
+    {
         self.fill(entries);
         if self.entered < entries.len() {
             return latest_from_the_end(entries);
@@ -88,6 +106,7 @@ impl InForce {
         if at < self.entered {
             self.numbers.take(at as u64 + 1);
         }
+        self.bound.left_force(at);
     }
 
     /// The edit at a place is in force again. Where no memory is left for it, none has entered.
@@ -96,6 +115,7 @@ impl InForce {
         ensures { (count : ℕ) (footprints : Footprints) (f : Footprint workbook) → AreInForce self.old count footprints →
             AreInForce self.new count (with_footprint footprints (at + 1) (Some f)) }
     {
+        self.bound.back_in_force(at);
         if at >= self.entered {
             return;
         }

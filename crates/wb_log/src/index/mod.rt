@@ -2,6 +2,7 @@
 //! it is asked: each edit enters once, before the first question that needs it. To make an edit costs nothing here, and
 //! never fails for its sake. Where no memory is left for an edit to enter, the edits are gone through.
 
+mod bound;
 mod by_footprint;
 mod in_force;
 
@@ -12,7 +13,7 @@ ghost use Rattle.wb_log.specs.declared.entry.Before.{Before};
 ghost use Rattle.wb_log.specs.Indexed.{Indexes};
 ghost use Rattle.wb_log.specs.Records.{lent_kept, element_reads, cell_before};
 
-use crate::entry::{Before, SetRecord};
+use crate::entry::{Before, ElementSet};
 use crate::index::by_footprint::ByFootprint;
 use crate::index::in_force::InForce;
 use crate::lent::LentKept;
@@ -56,7 +57,7 @@ impl EditIndex {
     }
 
     /// The edit at a place, a new value of an element that was in force, no longer is.
-    pub(crate) fn set_left_force(&mut self, at: usize, element: &SetRecord, was: &Before)
+    pub(crate) fn set_left_force(&mut self, at: usize, element: &ElementSet, was: &Before)
         requires { at < 2 ^ 63 }
         ensures { (count : ℕ) (footprints : Footprints) → Indexes self.old count footprints →
             footprints (at + 1) ≡ Some (footprint (element_reads element.now.array element.now.place)
@@ -78,7 +79,7 @@ impl EditIndex {
     }
 
     /// The edit at a place, a new value of an element that was out of force, is in force again.
-    pub(crate) fn set_back_in_force(&mut self, at: usize, element: &SetRecord)
+    pub(crate) fn set_back_in_force(&mut self, at: usize, element: &ElementSet)
         requires { at < 2 ^ 63 }
         ensures { (was : Before) (count : ℕ) (footprints : Footprints) → Indexes self.old count footprints → footprints (at + 1) ≡ None →
             Indexes self.new count (with_footprint footprints (at + 1) (Some (footprint (element_reads element.now.array element.now.place)

@@ -10,7 +10,7 @@ ghost use Rattle.wb_log.specs.Kept.{plan_refusal};
 ghost use Rattle.wb_log.specs.Past.{meant};
 ghost use Rattle.wb_log.specs.Replies.{EditReply};
 
-use crate::entry::EditRecord;
+use crate::entry::{EditRecord, SetRecord};
 use crate::log::Log;
 use crate::steps::making::make;
 use wb_arrays::Mover;
@@ -82,12 +82,12 @@ impl Log {
         if self.entries.reserve(1).is_err() {
             return None;
         }
+        let Ok(record) = SetRecord::undone(self.alloc, array, place, value) else {
+            return None;
+        };
         match self.book.replace(array, place, *value) {
             None => None,
-            Some(was) => match self
-                .entries
-                .push(EditRecord::set(array, place, value, &was))
-            {
+            Some(was) => match self.entries.push(EditRecord::set(record, &was)) {
                 Ok(()) => Some(self.entries.len() as u64),
                 Err(_) => unreachable!(),
             },

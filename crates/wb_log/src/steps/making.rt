@@ -162,13 +162,10 @@ fn old_of(
     ensures { IfSome result (λ was. kept_of form.now (Some was) ≡ Some (record { footprint = footprint.now; inverse = inverse delta.now book.now.cells })) }
 {
     match form {
-        RecordForm::Set(element) => old_value(
-            book,
-            &element.reads(),
-            &element.cell(),
-            delta,
-            footprint,
-        ),
+        RecordForm::Set(record) => {
+            let element = record.element();
+            old_value(book, &element.reads(), &element.cell(), delta, footprint)
+        }
         RecordForm::Copy(copied) => old_value(
             book,
             &copied.reads(),

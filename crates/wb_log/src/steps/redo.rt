@@ -215,6 +215,7 @@ impl Log {
             Some(Err(why)) => Some(Err(why)),
             Some(Ok(element)) => {
                 if straight::set_again(
+                    self.alloc,
                     &mut self.book,
                     &mut self.entries[at],
                     &mut self.index,

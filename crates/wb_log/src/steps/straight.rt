@@ -17,8 +17,9 @@ ghost use Rattle.wb_log.specs.Past.{AreValid};
 ghost use Rattle.wb_log.specs.Records.{shown, element_reads};
 ghost use Rattle.wb_log.specs.Replies.{RedoReply};
 
-use crate::entry::{Before, EditRecord, RecordForm, SetRecord, Was};
+use crate::entry::{Before, EditRecord, ElementSet, RecordForm, SetRecord, Was};
 use crate::index::EditIndex;
+use std::alloc::Global;
 use wb_book::Book;
 use wb_edit::Refusal;
 
@@ -43,36 +44,37 @@ pub(crate) fn set_back(
     ensures book_stays { result ≡ false → book.new ≡ book.old }
     ensures index_stays { result ≡ false → index.new ≡ index.old }
 {
-    let RecordForm::Set(element) = &mut entry.form else {
+    let RecordForm::Set(change) = &mut entry.form else {
         return false;
     };
-    set_element_back(book, element, index, at)
+    set_element_back(book, change, index, at)
 }
 
 // Sets the element of a record back, where the edit is in force and the element is there.
 fn set_element_back(
     book: &mut Book,
-    element: &mut SetRecord,
+    change: &mut SetRecord,
     index: &mut EditIndex,
     at: usize,
 ) -> bool
     requires few { at < 2 ^ 63 }
-    requires well_formed { LeavesWellFormed (shown (form.Set element.old)) book.old.cells }
-    ensures ok { result ≡ true → TakenBack (shown (form.Set element.old)) 1 (shown (form.Set element.new)) book.old book.new }
+    requires well_formed { LeavesWellFormed (shown (form.Set change.old)) book.old.cells }
+    ensures ok { result ≡ true → TakenBack (shown (form.Set change.old)) 1 (shown (form.Set change.new)) book.old book.new }
     ensures taken { result ≡ true → (count : ℕ) (footprints : Footprints) → Indexes index.old count footprints →
-        footprints (at + 1) ≡ kept_in (shown (form.Set element.old)) → Indexes index.new count (with_footprint footprints (at + 1) None) }
-    ensures element_stays { result ≡ false → element.new ≡ element.old }
+        footprints (at + 1) ≡ kept_in (shown (form.Set change.old)) → Indexes index.new count (with_footprint footprints (at + 1) None) }
+    ensures change_stays { result ≡ false → change.new ≡ change.old }
     ensures book_stays { result ≡ false → book.new ≡ book.old }
     ensures index_stays { result ≡ false → index.new ≡ index.old }
 {
-    let Was::Number(was) = element.was else {
+    let Was::Number(was) = change.was else {
         return false;
     };
+    let element = change.element();
     match book.replace(&element.array, &element.place, was) {
         None => false,
         Some(_) => {
-            index.set_left_force(at, element, &Before::Number(was));
-            element.was = Was::Untold;
+            index.set_left_force(at, &element, &Before::Number(was));
+            change.was = Was::Untold;
             true
         }
     }
@@ -85,7 +87,7 @@ pub(crate) fn set_to_redo(
     entries: &[EditRecord],
     index: &mut EditIndex,
     at: usize,
-) -> Option<Result<SetRecord, Refusal>>
+) -> Option<Result<ElementSet, Refusal>>
     // The place is in the log, which belongs together with its workbook and its index.
     requires in_log { at < length entries.now }
     requires few { length entries.now < 2 ^ 63 }
@@ -114,13 +116,15 @@ pub(crate) fn set_to_redo(
     }
 }
 
-/// Sets the element again that the edit at a place sets, which is out of force, and says whether the element was there.
+/// Sets the element again that the edit at a place sets, which is out of force, and says whether it did: not where the element is
+/// not there, nor without memory.
 pub(crate) fn set_again(
+    alloc: Global,
     book: &mut Book,
     entry: &mut EditRecord,
     index: &mut EditIndex,
     at: usize,
-    element: &SetRecord,
+    element: &ElementSet,
 ) -> bool
     // The edit is the new value of the element, and leads to a well-formed workbook where the element is there.
     requires few { at < 2 ^ 63 }
@@ -148,10 +152,13 @@ pub(crate) fn set_again(
     ensures book_stays { result ≡ false → book.new ≡ book.old }
     ensures index_stays { result ≡ false → index.new ≡ index.old }
 {
+    let Ok(record) = SetRecord::undone(alloc, &element.array, &element.place, &element.value) else {
+        return false;
+    };
     match book.replace(&element.array, &element.place, element.value) {
         None => false,
         Some(was) => {
-            *entry = EditRecord::set(&element.array, &element.place, &element.value, &was);
+            *entry = EditRecord::set(record, &was);
             index.set_back_in_force(at, element);
             true
         }

@@ -1,7 +1,8 @@
-// A set and a get by their members in turn, which a map has in the ascending order of their keys: so no key is looked for.
+// A set, a get and an undo of the latest by their members in turn, which a map has in the ascending order of their keys: so no key
+// is looked for.
 ghost use Rattle.std.specs.Prelude.{◌≡◌, IfSome};
 ghost use Rattle.serde_json.specs.View.{view};
-ghost use Rattle.wb_requests.specs.InTurn.{Leads, set_data, get_data, name_in, index_in, set_with, get_with};
+ghost use Rattle.wb_requests.specs.InTurn.{Leads, set_data, get_data, undo_data, name_in, index_in, set_with, get_with};
 
 use crate::requests::fields::{index_of, name_of};
 use crate::requests::request::Request;
@@ -64,6 +65,27 @@ pub(crate) fn get_members(value: &Value) -> Option<(&Value, &Value)>
     }
     if members.next().is_none() {
         Some((name, index))
+    } else {
+        None
+    }
+}
+
+/// Whether there is the one member of an undo of the latest.
+#[tactic(auto, using(crate::proofs::InTurn::led))]
+pub(crate) fn undo_member(value: &Value) -> Option<()>
+    ensures { IfSome result (λ r. view value.now ≡ undo_data) }
+{
+    let mut members = match value {
+        Value::Object(members) => members.iter(),
+        _ => return None,
+    };
+    let op = next_member(&mut members, "op")?.as_str()?;
+    match op {
+        "undo" => {}
+        _ => return None,
+    }
+    if members.next().is_none() {
+        Some(())
     } else {
         None
     }

@@ -7,7 +7,7 @@ ghost use Rattle.wb_requests.specs.Requests.{by_op, request_of, request};
 
 use crate::requests::arrays::set_of;
 use crate::requests::fields::text_field;
-use crate::requests::in_turn::{get_members, get_with, set_members, set_with};
+use crate::requests::in_turn::{get_members, get_with, set_members, set_with, undo_member};
 use crate::requests::queries::get_of;
 use crate::requests::request::Request;
 use crate::requests::single::{by_single_op, redo_of, undo_of};
@@ -31,7 +31,8 @@ fn by_op(alloc: Global, op: &str, value: &Value) -> Result<Request, Refusal>
     }
 }
 
-// What is asked by an object, by its op.
+// What is asked by an object, by its op. It stands apart in the program too, so that what most lines run through is short.
+#[inline(never)]
 fn asked_by_op(alloc: Global, value: &Value) -> Result<Request, Refusal>
     ensures { IsAnswer (request_of (view value.now)) result }
 {
@@ -39,8 +40,8 @@ fn asked_by_op(alloc: Global, value: &Value) -> Result<Request, Refusal>
     by_op(alloc, op, value)
 }
 
-// What is asked by an object. A set and a get, which come most, are read by their members in turn.
-#[tactic(auto, using(crate::proofs::InTurn::set_answer, crate::proofs::InTurn::get_answer))]
+// What is asked by an object. A set, a get and an undo of the latest, which come most, are read by their members in turn.
+#[tactic(auto, using(crate::proofs::InTurn::set_answer, crate::proofs::InTurn::get_answer, crate::proofs::InTurn::undo_answer))]
 fn request_of(alloc: Global, value: &Value) -> Result<Request, Refusal>
     ensures { IsAnswer (request_of (view value.now)) result }
 {
@@ -49,6 +50,9 @@ fn request_of(alloc: Global, value: &Value) -> Result<Request, Refusal>
     }
     if let Some((name, index)) = get_members(value) {
         return get_with(name, index);
+    }
+    if let Some(_) = undo_member(value) {
+        return Ok(Request::Undo(None));
     }
     asked_by_op(alloc, value)
 }

@@ -44,11 +44,11 @@ invariant_of-self-in-Some c =
     let had : get s (Element a i) ≡ Some (value.Number was) = c.replace.ensures.was ∙ ap (option_map value.Number) c.in-Some.is in
     let set = to_z-of_z w64 v (search rules) in
     let stored = to_z-of_z w64 was (search rules) in
-    rw (c.in-Some.ensures.cells, set, c.in-Ok.ensures.items, c.reserve.ensures.items, c.set.ensures, stored)
+    rw (c.in-Some.ensures.cells, set, c.in-Ok-push.ensures.items, c.reserve.ensures.items, c.set.ensures, c.in-Ok.ensures, stored)
     (keeps_set s c.self.inside.index c.self.inside.entries.items a i v was c.self.invariant c.requires had)
 
-pub returns-in-Ok-clause-reply : goal.returns-in-Ok-clause-reply
-returns-in-Ok-clause-reply c =
+pub returns-in-Ok-push-clause-reply : goal.returns-in-Ok-push-clause-reply
+returns-in-Ok-push-clause-reply c =
     let es = c.self.inside.entries.items in
     let s : Cells = c.self.inside.book.cells in
     let a = c.args.array.now in
@@ -59,16 +59,16 @@ returns-in-Ok-clause-reply c =
     let had : get s (Element a i) ≡ Some (value.Number c.in-Some.was) = c.replace.ensures.was ∙ ap (option_map value.Number) c.in-Some.is in
     let there : IsSome (get s (Element a i)) = ap is_some had in
     let more = c.set.result ∷ [] in
-    let items : c.push.new.self.items ≡ es ++ more = c.in-Ok.ensures.items ∙ ap (λ gs. gs ++ more) c.reserve.ensures.items in
+    let items : c.push.new.self.items ≡ es ++ more = c.in-Ok-push.ensures.items ∙ ap (λ gs. gs ++ more) c.reserve.ensures.items in
     subst (λ p. EditReply (meant p.entries) (meaning (OneCommand (Set a i v))) (Ok (k, 1))) c.self.view_is
     (accepted_edit s es (OneCommand (Set a i v)) (element_set a i v) k 1 shows (set_accepted s (well_formed es s shows c.self.invariant.valid) a i v there) refl
     (omega (arith, c.len.ensures, ap length items, length-append es more)))
 
-pub returns-in-Ok-clause-entries : goal.returns-in-Ok-clause-entries
-returns-in-Ok-clause-entries c =
+pub returns-in-Ok-push-clause-entries : goal.returns-in-Ok-push-clause-entries
+returns-in-Ok-push-clause-entries c =
     let es = c.self.inside.entries.items in
     let y = c.set.result in
     let x : Numbered = record { edit = OneCommand (Set c.args.array.now c.args.place.now c.args.value.now); in_force = true } in
-    let items : c.push.new.self.items ≡ es ++ y ∷ [] = c.in-Ok.ensures.items ∙ ap (λ gs. gs ++ y ∷ []) c.reserve.ensures.items in
+    let items : c.push.new.self.items ≡ es ++ y ∷ [] = c.in-Ok-push.ensures.items ∙ ap (λ gs. gs ++ y ∷ []) c.reserve.ensures.items in
     ap numbered_entries items ∙ numbers_more es y
-    ∙ ap (λ z. numbered_entries es ++ numbered z ∷ []) c.set.ensures ∙ ap (λ p. p.entries ++ x ∷ []) c.self.view_is
+    ∙ ap (λ z. numbered_entries es ++ numbered z ∷ []) (rw c.in-Ok.ensures at c.set.ensures) ∙ ap (λ p. p.entries ++ x ∷ []) c.self.view_is

@@ -36,7 +36,7 @@ returns-in-Some-clause-entry c = λ _.
     let was : ℤ = c.in-Some.was in
     let had : get s (Element x.array x.place) ≡ Some (value.Number was) = c.replace.ensures.was ∙ ap (option_map value.Number) c.in-Some.is in
     let stored = to_z-of_z w64 was (search rules) in
-    c.set.ensures ∙ ap (λ (w : ℤ). let y : LoggedEdit = record {
+    (rw c.in-Ok.ensures at c.set.ensures) ∙ ap (λ (w : ℤ). let y : LoggedEdit = record {
       edit = OneCommand (Set x.array x.place v);
       kept = Some (record { footprint = element_reads x.array x.place; inverse = cell_before (Element x.array x.place) (Number w) });
     } in y) stored ∙ entry_again s x.array x.place v was c.args.entry.now.edit c.requires.edit had
@@ -52,5 +52,5 @@ pub returns-in-Some-clause-put : goal.returns-in-Some-clause-put
 returns-in-Some-clause-put c = λ _ count footprints h none.
     let was : ℤ = c.in-Some.was in
     let now = c.set_back_in_force.new.self in
-    subst (λ o. Indexes now count (with_footprint footprints (c.args.at + 1) o)) (sym (ap kept_in c.set.ensures))
+    subst (λ o. Indexes now count (with_footprint footprints (c.args.at + 1) o)) (sym (ap kept_in (rw c.in-Ok.ensures at c.set.ensures)))
     (c.set_back_in_force.ensures (Number (to_z w64 (of_z w64 was))) count footprints h none)

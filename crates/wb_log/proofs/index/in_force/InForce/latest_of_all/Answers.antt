@@ -1,7 +1,7 @@
 use Rattle.std.proofs.Common.{Some, None}
 use Rattle.wb_footprints.specs.Numbers.{numbered}
 use Rattle.wb_log.proofs.Entered.{greatest_whole, latest_none, latest_some, latest_positive}
-use Rattle.wb_log.proofs.index.in_force.InForce.latest.Goals as goal
+use Rattle.wb_log.proofs.index.in_force.InForce.latest_of_all.Goals as goal
 
 pub returns-in-None-clause-latest : goal.returns-in-None-clause-latest
 returns-in-None-clause-latest c =
