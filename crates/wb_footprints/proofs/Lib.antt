@@ -26,6 +26,7 @@ pub mod OneFamily
 pub mod SortedPoints
 pub mod Products
 pub mod InCommon
+pub mod AllAmong
 pub mod Through
 pub mod InGroups
 pub mod InKeys

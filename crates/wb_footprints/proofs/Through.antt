@@ -103,6 +103,14 @@ run_waits m s w after run h kept n up met =
     let one = Any-from_list_any (λ p. marked_own m (cell_of run.row p) n) run.indices met in
     h.cells (cell_of run.row one.1) 0 n (inr (run, kept, (one.1, (one.0, one.2, one.3), refl))) up one.4
 
+-- and those at the cells of one whose cells are among its cells
+pub within_waits : (m : FootIndex) (s : SweptCells) (w : Numbers) (after : ℕ) (kept run : Run) → AreSwept m s w after → Contains s.runs.items kept →
+    kept.row ≡ run.row → ((f : Index → Bool) → list_any f run.indices ≡ true → list_any f kept.indices ≡ true) → AreWaiting m run.row run.indices w after
+within_waits m s w after kept run h there row among n up met =
+    run_waits m s w after kept h there n up
+    (subst (λ (r : IndexedRow). list_any (λ p. marked_own m (cell_of r p) n) kept.indices ≡ true) (sym row)
+    (among (λ p. marked_own m (cell_of run.row p) n) met))
+
 in_behind : {X : Type 0} (xs : List X) (y x : X) → Contains (xs ++ y ∷ []) x → Contains xs x ⊎ (x ≡ y)
 in_behind [] y x (zero, l, e) = inr (sym e)
 in_behind [] y x (suc k, l, e) = absurd (omega (arith, l))

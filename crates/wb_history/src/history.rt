@@ -1,6 +1,7 @@
 ghost use Rattle.std.specs.Prelude.{◌≡◌, ℕ, ◌+◌, ◌-◌, ◌<◌, ◌≤◌, length, take, [], ◌∷◌, ◌++◌, OnOk, OnErr, IfOk, IfErr, IfSome, IfNone, None, Ok, Err, true, false, option_map};
 ghost use Rattle.selective_undo.specs.History.{replay, IsLegal};
 ghost use Rattle.wb_cells.specs.Cells.{saturating_add};
+ghost use Rattle.wb_cells.specs.WellFormed.{IsWellFormed};
 ghost use Rattle.wb_edit.specs.Edits.{meaning, note_of};
 ghost use Rattle.wb_log.specs.Cascades.{DependentsReply, CascadeReply, OfNumber, NoShorter, OthersStay, OtherCellsStay, all_out_of_force, places, set_back};
 ghost use Rattle.wb_log.specs.Past.{meant, out_of_force, into_force, force_of};
@@ -80,6 +81,7 @@ impl History {
     /// The workbook: what the edits in force make of an empty one, each accepted in its place.
     pub fn book(&self) -> &Book
         ensures legal { IsLegal (meant self.now.entries) }
+        ensures formed { IsWellFormed result.now.cells }
         ensures cells { result.now.cells ≡ replay (meant self.now.entries) }
         ensures writes { result.now.writes ≡ self.now.writes }
     {
@@ -259,7 +261,7 @@ impl History {
         ensures { QueryReply (replay (meant self.now.entries)) self.now.entries query.now result }
     {
         match query {
-            Query::Get(array, index) => value_answer(element_of(self.book(), *array, *index)),
+            Query::Get(array, index) => value_answer(element_of(self.book(), array, index)),
             Query::Size(domain) => count_answer(size_of(self.book(), *domain)),
             Query::Where(domain, index) => {
                 locale_answer(locale_of(self.book(), *domain, *index))

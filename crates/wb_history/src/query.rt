@@ -1,5 +1,6 @@
 ghost use Rattle.std.specs.Prelude.{◌≡◌, None, IfOk};
 ghost use Rattle.std.specs.Bool.{Decides};
+ghost use Rattle.wb_cells.specs.WellFormed.{IsWellFormed};
 ghost use Rattle.wb_edit.specs.Trees.{plain};
 ghost use Rattle.wb_edit.specs.declared.refusal.Refusal.TheVariants.{Refused};
 ghost use Rattle.wb_history.specs.Queries.{element_or_implicit, get_answer, value_answer, size_answer, count_answer, force_answer};
@@ -59,12 +60,23 @@ impl Answer {
     }
 }
 
-/// The element at an index of an array, or why there is none.
+/// The element at an index of an array, or why there is none. One that is there is found by one search.
 pub(crate) fn element_of(
     book: &Book,
-    array: Name,
-    index: AnyIndex,
+    array: &Name,
+    index: &AnyIndex,
 ) -> Result<i64, wb_cells::WhyRefused>
+    requires { IsWellFormed book.now.cells }
+    ensures { result ≡ get_answer book.now.cells array.now index.now }
+{
+    match book.element(array, index) {
+        Some(number) => Ok(number),
+        None => looked_up(book, *array, *index),
+    }
+}
+
+// The same by a look at the array, at its element, and where that is not there, at what stands for it.
+fn looked_up(book: &Book, array: Name, index: AnyIndex) -> Result<i64, wb_cells::WhyRefused>
     ensures { result ≡ get_answer book.now.cells array index }
 {
     let (domain, kind) = judgements::array_kind(book.get(&Cell::Object(array)))?;

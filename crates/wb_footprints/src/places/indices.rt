@@ -1,6 +1,6 @@
 //! Indices of one object: points, or labels.
 
-ghost use Rattle.std.specs.Prelude.{◌≡◌, ◌<◌, ◌≤◌, [], ◌∷◌, true, Some, IsTrue, length, map, slice_get};
+ghost use Rattle.std.specs.Prelude.{◌≡◌, ◌<◌, ◌≤◌, Bool, [], ◌∷◌, true, Some, IsTrue, length, map, slice_get};
 ghost use Rattle.std.specs.List.{list_any};
 ghost use Rattle.wb_cells.specs.declared.values.index.Index.{Index};
 ghost use Rattle.wb_cells.specs.declared.values.index.Index.TheVariants.{Point as at_point, Text as at_text};
@@ -135,6 +135,26 @@ impl Indices {
         match &self.held {
             HeldIndices::Points(_) => false,
             HeldIndices::Labels(own) => own.meets(labels),
+        }
+    }
+
+    /// Whether all of the other indices are seen to be among these: a test that finds one of those finds one of these.
+    pub fn has_all(&self, others: &Indices) -> bool
+        ensures { IsTrue result → (f : Index → Bool) → list_any f others.now ≡ true → list_any f self.now ≡ true }
+    {
+        match &self.held {
+            HeldIndices::Points(points) => others.are_among(points),
+            HeldIndices::Labels(labels) => others.are_labels(labels),
+        }
+    }
+
+    // Whether they are seen to be among these points.
+    fn are_among(&self, points: &Points) -> bool
+        ensures { IsTrue result → (f : Index → Bool) → list_any f self.now ≡ true → list_any f (map at_point points.now) ≡ true }
+    {
+        match &self.held {
+            HeldIndices::Points(own) => points.has_all(own),
+            HeldIndices::Labels(_) => false,
         }
     }
 

@@ -1,7 +1,7 @@
 //! Points in ascending order.
 
 ghost use Rattle.std.specs.Prelude.{◌≡◌, ℕ, ◌+◌, ◌-◌, ◌<◌, ◌≤◌, Bool, [], ◌∷◌, true, false, Some, IsTrue, IfSome, length, slice_get, slice_index_or};
-ghost use Rattle.std.specs.List.{list_any};
+ghost use Rattle.std.specs.List.{list_all, list_any};
 ghost use Rattle.std.specs.List.Sorted.{IsStrictlySortedBy};
 ghost use Rattle.std.specs.declared.cmp.Ordering.TheVariants.{Less};
 ghost use Rattle.wb_footprints.specs.Keys.{key_of};
@@ -159,6 +159,18 @@ impl Points {
             Held::Within(area) => area.contains(&AnyIndex::new(Index::Point(*point))),
             Held::One(own) => *own == *point,
         }
+    }
+
+    /// Whether all of the other points are among these, up to the first that is not.
+    pub fn has_all(&self, others: &Points) -> bool
+        ensures { IsTrue result → list_all (in_points self.now) others.now ≡ true }
+    {
+        for at in 0..others.len() {
+            if !self.contains(&others.point(at)) {
+                return false;
+            }
+        }
+        true
     }
 
     /// Whether they are seen to be the same points: as ranges that are the same, or point by point.

@@ -1,6 +1,6 @@
 //! Runs: the elements, members or indices inside of one object, by their indices in ascending order.
 
-ghost use Rattle.std.specs.Prelude.{◌≡◌, ◌<◌, ◌≤◌, Bool, IfSome, IsTrue, length, map};
+ghost use Rattle.std.specs.Prelude.{◌≡◌, ◌<◌, ◌≤◌, Bool, true, IfSome, IsTrue, length, map};
 ghost use Rattle.std.specs.List.{list_any};
 ghost use Rattle.wb_cells.specs.Runs.{cell_of, changes_in, packed_changes, labelled_changes, rectangle_entries, numbered_entries};
 ghost use Rattle.wb_cells.specs.Shapes.{indices};
@@ -71,14 +71,14 @@ pub struct Run {
 }
 
 impl Run {
-    /// Whether they are seen to be the same cells.
-    pub(crate) fn is_same(&self, other: &Run) -> bool
-        ensures { IsTrue result → self.now ≡ other.now }
+    /// Whether the other cells are seen to be among these.
+    pub(crate) fn has_all(&self, other: &Run) -> bool
+        ensures { IsTrue result → (self.now.row ≡ other.now.row) × ((f : Index → Bool) → list_any f other.now.indices ≡ true → list_any f self.now.indices ≡ true) }
     {
         if !self.row.is_same(&other.row) {
             return false;
         }
-        self.indices.is_same(&other.indices)
+        self.indices.has_all(&other.indices)
     }
 
     /// The run that cells are, in whichever order, if all are of one row, and there is memory.

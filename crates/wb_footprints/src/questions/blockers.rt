@@ -125,8 +125,26 @@ impl FootIndex {
         }
     }
 
+    /// Those above `after` at the own place of one of the cells of a run join the numbers that wait; the run is asked, and kept,
+    /// whole. Some of its cells may have been asked before.
+    fn join_own_whole(
+        &self,
+        run: Run,
+        after: u64,
+        waiting: &mut Numbers,
+        swept: &mut SweptCells,
+    ) -> Result<(), NoMemory>
+        requires { AreSwept self.now swept.old waiting.old after }
+        ensures joined { OnOk result (JoinedAfter waiting.old waiting.new
+            (λ n. list_any (λ p. marked_own self.now (cell_of run.row p) n) run.indices) after) }
+        ensures swept { OnOk result (AreSwept self.now swept.new waiting.new after) }
+    {
+        self.join_own_together(&run, after, waiting)?;
+        swept.keep(run)
+    }
+
     /// Those above `after` at the own place of one of the cells of a run join the numbers that wait. Nothing is asked of a run that
-    /// the sweep keeps whole: they wait already.
+    /// lies within one that the sweep keeps whole: they wait already.
     fn join_own_run(
         &self,
         run: Run,
@@ -139,11 +157,14 @@ impl FootIndex {
             (λ n. list_any (λ p. marked_own self.now (cell_of run.row p) n) run.indices) after) }
         ensures swept { OnOk result (AreSwept self.now swept.new waiting.new after) }
     {
-        if swept.has_run(&run) {
+        if swept.covers(&run) {
             return Ok(());
         }
-        self.join_own_left(&run, after, waiting, swept)?;
-        swept.keep(run)
+        if swept.has_room() {
+            self.join_own_whole(run, after, waiting, swept)
+        } else {
+            self.join_own_left(&run, after, waiting, swept)
+        }
     }
 
     /// Those above `after` at the own place of one of the cells of a run join the numbers that wait; few cells are asked one by
@@ -340,22 +361,6 @@ impl FootIndex {
     {
         let (first, runs) = before.parts();
         self.join_first(&first, after, waiting, swept)?;
-        self.join_runs(runs, after, waiting, swept)
-    }
-
-    /// As `join_blockers`, where the cells are those of runs.
-    pub fn join_blockers_of(
-        &self,
-        runs: &[ChangeRun],
-        after: u64,
-        waiting: &mut Numbers,
-        swept: &mut SweptCells,
-    ) -> Result<(), NoMemory>
-        requires { AreSwept self.now swept.old waiting.old after }
-        ensures joined { OnOk result ((footprints : Footprints) → IsIndexOf self.now footprints →
-            JoinedAfter waiting.old waiting.new (λ n. blocks_undo (all_changes runs.now) (footprints n)) after) }
-        ensures swept { OnOk result (AreSwept self.now swept.new waiting.new after) }
-    {
         self.join_runs(runs, after, waiting, swept)
     }
 

@@ -128,15 +128,6 @@ impl FootIndex {
         earlier(self.met_first(&first, after), self.met_in_runs(runs, after))
     }
 
-    /// The least number above `after` whose footprint needs one that wrote the cells of runs.
-    pub fn first_to_block_undo_of(&self, runs: &[ChangeRun], after: u64) -> Option<u64>
-        ensures least { (footprints : Footprints) → IsIndexOf self.now footprints →
-            IsLeastAfter (λ n. blocks_undo (all_changes runs.now) (footprints n)) after result }
-        ensures above { IfSome result (λ j. after < j) }
-    {
-        self.met_in_runs(runs, after)
-    }
-
     /// The least number above `after` whose footprint touched the place of one of the patterns.
     fn first_to_touch(&self, reads: &[Pattern], after: u64) -> Option<u64>
         ensures { (footprints : Footprints) → IsIndexOf self.now footprints → IsLeastAfter (λ n. touched_under (footprints n) reads.now) after result }

@@ -28,9 +28,9 @@ use wb_sets::Label;
 const MOST: usize = 64;
 
 /// The cells that a sweep over the index went through, from the least number up, and the families that it asked for, each by
-/// one cell of it: what met one of them waits already, so that each is asked for once, however many edits touched it. Some of
-/// the runs that it went through are kept whole beside their cells, so that one that comes again is known without a search for
-/// each of its cells.
+/// one cell of it: what met one of them waits already, so that each is asked for once, however many edits touched it. The first
+/// runs that it went through are kept whole, with no cell of theirs alone, so that one whose cells are among those of another is
+/// known without a search for each of them.
 #[derive(Drop)]
 pub struct SweptCells {
     pub(crate) cells: Marks<Cell>,
@@ -85,16 +85,22 @@ impl SweptCells {
         self.families.add(*cell, 1)
     }
 
-    /// Whether the sweep keeps such a run whole.
-    pub(crate) fn has_run(&self, run: &Run) -> bool
-        ensures { IsTrue result → Contains self.now.runs.items run.now }
+    /// Whether the sweep keeps a run whole among whose cells all cells of this one are.
+    pub(crate) fn covers(&self, run: &Run) -> bool
+        ensures { IsTrue result → (index : FootIndex) (waiting : Numbers) (after : ℕ) → AreSwept index self.now waiting after →
+            AreWaiting index run.now.row run.now.indices waiting after }
     {
         for kept in &self.runs {
-            if kept.is_same(run) {
+            if kept.has_all(run) {
                 return true;
             }
         }
         false
+    }
+
+    /// Whether there is room for a run more that is kept whole.
+    pub(crate) fn has_room(&self) -> bool {
+        self.runs.len() < MOST
     }
 
     /// The sweep keeps a run whole of whose cells all wait, as long as it has room for one.

@@ -1,5 +1,5 @@
 use Rattle.std.specs.Prelude.{⊤}
-use Rattle.wb_footprints.proofs.questions.swept.SweptCells.has_run.Given as goal
+use Rattle.wb_footprints.proofs.questions.swept.SweptCells.covers.Given as goal
 
 abbrev pub invariant-loop-kept : goal.invariant-loop-kept
 invariant-loop-kept l = ⊤
