@@ -1,5 +1,5 @@
 //! Which edits have to be undone with one, found by one sweep over the index: from each that is found to those that need it,
-//! all of them by one pass over its cells, in which a cell or a family that was asked for before is not asked for again.
+//! all of them by one pass over its cells, in which a family, and most cells, that were asked for before are not asked for again.
 
 ghost use Rattle.std.specs.Prelude.{◌<◌, ◌≤◌, ◌^◌, length, OnOk, IfOk};
 ghost use Rattle.wb_footprints.specs.Footprints.{IsIndexOf};

@@ -103,7 +103,7 @@ impl FootIndex {
     }
 
     /// Those above `after` at the own place of one of the cells of a run join the numbers that wait; those cells are asked that the
-    /// sweep did not go through.
+    /// sweep did not mark.
     fn join_own_left(
         &self,
         run: &Run,
@@ -345,8 +345,8 @@ impl FootIndex {
     }
 
     /// All numbers above `after` whose footprints need one that wrote the cells join those that wait, in one pass over the
-    /// cells; a cell that a sweep went through before, and a family that it asked for, is not asked for again, since what met it
-    /// waits. Where memory runs out, some of them may have.
+    /// cells; a run within one that a sweep keeps, a cell that it marked, and a family that it asked for, is not asked for again,
+    /// since what met it waits. Where memory runs out, some of them may have.
     pub fn join_blockers(
         &self,
         before: &Changes,
