@@ -1,17 +1,15 @@
 -- Blocks of several reaches: what is in them after one is set or comes, and what stands at several indices.
-use Rattle.std.proofs.Common.{◌≡◌, ℕ, ◌+◌, ◌<◌, ◌≤◌, Bool, true, false, ◌&&◌, ◌||◌, ◌==◌, if◌then◌else◌, Option, Some, None}
-use Rattle.std.proofs.Common.{List, [], ◌∷◌, ◌++◌, length, take, set, get_or, suc, zero, refl, sym, ap, subst, ◌∙◌, arith}
+use Rattle.std.proofs.Common.{◌≡◌, ℕ, ◌<◌, Bool, true, false, ◌&&◌, ◌||◌, ◌==◌, if◌then◌else◌}
+use Rattle.std.proofs.Common.{List, [], ◌∷◌, ◌++◌, length, set, get_or, suc, zero, refl, ap, ◌∙◌, arith}
 use Rattle.std.specs.List.{list_any}
 use Rattle.std.proofs.lemmas.List.Folds.{list_any-append}
-use Rattle.wb_footprints.specs.Numbers.{Numbers}
 use Rattle.wb_footprints.specs.declared.marks.reach_marks.ReachMarks.{ReachMarks}
 use Rattle.wb_footprints.specs.Groups.{in_groups}
 use Rattle.wb_cells.specs.declared.values.index.Index.{Index}
 use Rattle.wb_footprints.specs.Reaches.{in_reaches}
-use Rattle.wb_footprints.specs.Relation.{Sets, IsLeastAfter, JoinedAfter}
+use Rattle.wb_footprints.specs.Relation.{Sets}
 use Rattle.wb_footprints.proofs.InGroups.{within, beside}
-use Rattle.wb_footprints.proofs.Joining.{joined_like, none_joined}
-use Rattle.wb_footprints.proofs.Meeting.{any_swap, least_like}
+use Rattle.wb_footprints.proofs.Meeting.{any_swap}
 
 -- whether a number stands at one of some indices by a block of one reach
 abbrev pub asked : List Index → ReachMarks → ℕ → Bool

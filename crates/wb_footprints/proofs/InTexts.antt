@@ -1,5 +1,5 @@
 -- Labels: their order, their bytes, and their keys, which never fall along ascending labels.
-use Rattle.std.proofs.Common.{◌≡◌, ℕ, ◌+◌, ◌-◌, ◌*◌, ◌<◌, ◌≤◌, ◌/◌, ◌%◌, Bool, true, false, cond, ◌&&◌, ◌||◌, zero, suc, List, [], ◌∷◌, ◌++◌, IsUtf8}
+use Rattle.std.proofs.Common.{◌≡◌, ℕ, ◌+◌, ◌*◌, ◌<◌, ◌≤◌, ◌/◌, ◌%◌, Bool, true, false, cond, zero, suc, List, [], ◌∷◌, ◌++◌}
 use Rattle.std.proofs.Common.{◌⊎◌, inl, inr, drop, get_or, refl, subst, arith, ltb-true}
 use lib.Dec.{ltb}
 use lib.Utf8.{scalar, scalars, encode, encodes, scalar_cases}

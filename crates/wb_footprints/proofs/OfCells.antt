@@ -1,5 +1,5 @@
 -- The marks of a cell are those of its place and of its family's.
-use Rattle.std.proofs.Common.{◌≡◌, ℕ, Bool, true, not, ◌&&◌, ◌||◌, ◌==◌, Some, List, take, suc, ◌+◌, ◌<◌, length, get_or, add-one}
+use Rattle.std.proofs.Common.{◌≡◌, ℕ, Bool, true, ◌||◌, ◌==◌, Some, List, take, suc, ◌+◌, ◌<◌, length, get_or, add-one}
 use Rattle.wb_cells.specs.declared.cells.cell.Cell.{Cell}
 use Rattle.wb_cells.specs.declared.cells.pattern.Pattern.{Pattern}
 use Rattle.wb_cells.specs.Cells.{Changes}
@@ -7,12 +7,8 @@ use Rattle.wb_footprints.specs.declared.places.place.Place.{Place}
 use Rattle.wb_footprints.specs.Relation.{Sets, Stays, Clears}
 use Rattle.wb_footprints.specs.Places.{own, place_of, is_same_place}
 use Rattle.wb_footprints.specs.declared.places.marking.Marking.{Marking}
-use Rattle.wb_footprints.specs.Footprints.{family_by, at_cell, marked_at, read_at, read_beside, is_one}
+use Rattle.wb_footprints.specs.Footprints.{family_by, at_cell, marked_at, read_at}
 use Rattle.wb_footprints.proofs.Setting.{then_sets, like, more_any, then_stays, stays_none, any_out, then_clears, clears_like}
-
--- whether a pattern is that of a place, and not that of a cell alone
-abbrev pub beside : Cell → Pattern → Place → Bool
-beside c r q = is_same_place (place_of r) q && not (is_one r c)
 
 module _ (o m n : Place → ℕ → Bool) (number : ℕ) (b : Bool) where
   pub cell_set : (by : Marking) (x : Cell) (p f : Place) → p ≡ own x → Some f ≡ family_by by x → Sets o m (is_same_place p) number b →
@@ -32,17 +28,7 @@ module _ (o m n : Place → ℕ → Bool) (number : ℕ) (b : Bool) where
   read_more xs i d below p e h k = rw add-one (like o n (λ q. read_at (take i xs) q || is_same_place p q) (read_at (take (suc i) xs)) number b
       (λ q. rw e (more_any (λ y. is_same_place (place_of y)) xs i d below q)) (then_sets o m n (read_at (take i xs)) (is_same_place p) number b h k))
 
-  pub beside_more : (c : Cell) (xs : List Pattern) (i : ℕ) (d : Pattern) → i < length xs → (x : Pattern) → x ≡ get_or xs i d →
-      Sets o m (read_beside c (take i xs)) number b → Sets m n (beside c x) number b → Sets o n (read_beside c (take (i + 1) xs)) number b
-  beside_more c xs i d below x e h k = rw add-one (like o n (λ q. read_beside c (take i xs) q || beside c x q) (read_beside c (take (suc i) xs)) number b
-      (λ q. rw e (more_any (beside c) xs i d below q)) (then_sets o m n (read_beside c (take i xs)) (beside c x) number b h k))
-
 module _ (o m n : Place → ℕ → Bool) (number : ℕ) where
-  pub beside_stays : (c : Cell) (xs : List Pattern) (i : ℕ) (d : Pattern) → i < length xs → (x : Pattern) → x ≡ get_or xs i d →
-      Sets o m (read_beside c (take i xs)) number true → ((q : Place) (j : ℕ) → n q j ≡ m q j) → Stays o n (read_beside c xs) number
-  beside_stays c xs i d below x e h k = then_stays o m n (read_beside c (take i xs)) (beside c x) (read_beside c xs) number true h
-      (stays_none m n (beside c x) number k) (λ q j out. rw e (any_out (beside c) xs i d below q (number == j) out))
-
   pub marked_stays : (by : Marking) (xs : Changes) (i : ℕ) (d : _) → i < length xs → (x : Cell) → x ≡ (get_or xs i d).cell →
       Sets o m (marked_at by (take i xs)) number true →
       Stays m n (at_cell by x) number → Stays o n (marked_at by xs) number

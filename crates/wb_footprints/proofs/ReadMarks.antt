@@ -1,20 +1,15 @@
 -- What is marked as read where a footprint comes, isn't added for want of memory, or is taken away.
-use Rattle.std.proofs.Common.{◌≡◌, ℕ, Bool, true, false, true≢false, not, ◌&&◌, ◌||◌, ◌==◌, List, [], ◌∷◌, Option, Some, None, if◌then◌else◌, refl, sym, subst, ap, ◌∙◌, arith, Ordering, Less, Equal, Greater}
+use Rattle.std.proofs.Common.{◌≡◌, ℕ, Bool, true, false, true≢false, ◌&&◌, ◌||◌, ◌==◌, Option, Some, None, if◌then◌else◌, refl, sym, subst, ap, ◌∙◌, arith}
 use Rattle.std.proofs.lemmas.Bool.{false_from_ne_true}
 use Rattle.std.proofs.lemmas.Bool.Decides.{nat_tests}
-use Rattle.std.specs.Ordering.{eq_by_cmp, is_eq}
 use Rattle.selective_undo.specs.Log.{Footprint}
-use Rattle.wb_cells.specs.Cells.{cell_cmp, cell_cmp-IsAntisymmetric}
 use Rattle.wb_cells.specs.Schema.{workbook}
-use Rattle.wb_cells.specs.declared.cells.cell.Cell.{Cell}
-use Rattle.wb_cells.specs.declared.cells.pattern.Pattern.{Pattern}
-use Rattle.wb_cells.specs.declared.cells.pattern.Pattern.TheVariants as p
 use Rattle.wb_footprints.specs.declared.places.marking.Marking.TheVariants.{Own}
 use Rattle.wb_footprints.specs.declared.places.place.Place.{Place}
 use Rattle.wb_footprints.specs.declared.marks.place_marks.PlaceMarks.{PlaceMarks}
 use Rattle.wb_footprints.specs.Relation.{Sets, Stays, Clears}
-use Rattle.wb_footprints.specs.Places.{own, place_of, is_same_place, place_marked}
-use Rattle.wb_footprints.specs.Footprints.{Footprints, AreReads, marked_at, own_touched_by, read_at, read_by, read_beside, is_one, with_footprint}
+use Rattle.wb_footprints.specs.Places.{place_marked}
+use Rattle.wb_footprints.specs.Footprints.{Footprints, AreReads, marked_at, own_touched_by, read_at, read_by, with_footprint}
 
 number_is : (m n : ℕ) → (m == n) ≡ true → m ≡ n
 number_is m n e = grind (arith, nat_tests)
@@ -90,47 +85,3 @@ module _ (footprints : Footprints) (number : ℕ) where
 
       at_number : (q : Place) → place_marked new q number ≡ here q
       at_number q = p.at q number ∙ itself (here q) (number == number) (place_marked old q number) (grind (arith, nat_tests)) (none_read old h had q)
-
--- ---- the patterns beside a cell
-
-equal_from : (c x : Cell) → eq_by_cmp cell_cmp x c ≡ true → own x ≡ own c
-equal_from c x e = ap own (cell_cmp-IsAntisymmetric x c (tied (cell_cmp x c) e))
-  where
-    tied : (o : Ordering) → is_eq o ≡ true → o ≡ Equal
-    tied Less e = cc
-    tied Equal e = refl
-    tied Greater e = cc
-
-one_place : (r : Pattern) (c : Cell) → is_one r c ≡ true → place_of r ≡ own c
-one_place p.Objects c e = cc
-one_place (p.One x) c e = equal_from c x e
-one_place (p.Members d) c e = cc
-one_place (p.Uses d) c e = cc
-one_place (p.Elements d) c e = cc
-
-module _ (c : Cell) (q : Place) where
-  pub beside_read : (rs : List Pattern) → read_beside c rs q ≡ true → read_at rs q ≡ true
-  beside_read [] e = e
-  beside_read (r ∷ rs) e = more (is_same_place (place_of r) q) (is_one r c) (beside_read rs) e
-    where
-      more : (a b : Bool) → (read_beside c rs q ≡ true → read_at rs q ≡ true) → (a && not b) || read_beside c rs q ≡ true → a || read_at rs q ≡ true
-      more true b f e = refl
-      more false b f e = f e
-
-  pub read_or_own : (rs : List Pattern) → read_at rs q ≡ true → read_beside c rs q || is_same_place (own c) q ≡ true
-  read_or_own [] e = cc
-  read_or_own (r ∷ rs) e = more (is_same_place (place_of r) q) (is_one r c) refl refl (read_or_own rs) e
-    where
-      later : (x y z : Bool) → y || z ≡ true → (x || y) || z ≡ true
-      later true y z e = refl
-      later false y z e = e
-
-      last : (x z : Bool) → z ≡ true → x || z ≡ true
-      last true z e = refl
-      last false z e = e
-
-      more : (a b : Bool) → is_same_place (place_of r) q ≡ a → is_one r c ≡ b → (read_at rs q ≡ true → read_beside c rs q || is_same_place (own c) q ≡ true) →
-          a || read_at rs q ≡ true → ((a && not b) || read_beside c rs q) || is_same_place (own c) q ≡ true
-      more true true there one f e = last (read_beside c rs q) (is_same_place (own c) q) (ap (λ s. is_same_place s q) (sym (one_place r c one)) ∙ there)
-      more true false there one f e = refl
-      more false b there one f e = f e

@@ -1,15 +1,16 @@
 -- An index is of footprints, one for some of the numbers: it has a mark at each place where one of them read or touched
 -- something.
-use Rattle.std.specs.Prelude.{◌≡◌, ℕ, Bool, true, false, not, ◌&&◌, ◌||◌, ◌==◌, List, map, Option, Some, None, if◌then◌else◌}
+use Rattle.std.specs.Prelude.{◌≡◌, ℕ, Bool, true, false, ◌||◌, ◌==◌, List, [], ◌∷◌, map, Option, Some, None, if◌then◌else◌}
 use Rattle.std.specs.List.{list_any}
-use Rattle.std.specs.Ordering.{eq_by_cmp}
 use Rattle.selective_undo.specs.Log.{Footprint}
 use Rattle.wb_cells.specs.declared.cells.cell.Cell.{Cell}
+use Rattle.wb_cells.specs.declared.cells.cell.Cell.TheVariants as c
+use Rattle.wb_cells.specs.declared.cells.value.Value.{Value}
 use Rattle.wb_cells.specs.declared.cells.pattern.Pattern.{Pattern}
 use Rattle.wb_cells.specs.declared.cells.pattern.Pattern.TheVariants as p
 use Rattle.selective_undo.specs.Changes.{changes}
 use Rattle.selective_undo.specs.Edit.{covers}
-use Rattle.wb_cells.specs.Cells.{Changes, cell_cmp}
+use Rattle.wb_cells.specs.Cells.{Changes, Name, cell_cmp}
 use Rattle.wb_cells.specs.Schema.{workbook}
 use Rattle.wb_cells.specs.Runs.{cell_of}
 use Rattle.wb_cells.specs.declared.changes.row.IndexedRow.{IndexedRow}
@@ -62,18 +63,6 @@ read_at rs q = list_any (λ r. is_same_place (place_of r) q) rs
 abbrev pub IsUnmarked : Marking → IndexedRow → PlaceMarks → ℕ → Type 0
 IsUnmarked m row marks n = (p : Index) (q : Place) → at_cell m (cell_of row p) q ≡ true → place_marked marks q n ≡ false
 
--- whether a pattern names one cell, and it is this one
-abbrev pub is_one : Pattern → Cell → Bool
-is_one p.Objects c = false
-is_one (p.One x) c = eq_by_cmp cell_cmp x c
-is_one (p.Members d) c = false
-is_one (p.Uses d) c = false
-is_one (p.Elements d) c = false
-
--- whether one of the patterns is that of a place, and not that of a cell alone
-abbrev pub read_beside : Cell → List Pattern → Place → Bool
-read_beside c rs q = list_any (λ r. is_same_place (place_of r) q && not (is_one r c)) rs
-
 -- whether a footprint, where there is one, touched a place
 abbrev pub touched_by : Option (Footprint workbook) → Place → Bool
 touched_by None q = false
@@ -103,6 +92,14 @@ pub record IsIndexOf (index : FootIndex) (footprints : Footprints) : Type 0 wher
 -- what was read, and what the touched cells were before
 abbrev pub footprint : List Pattern → Changes → Footprint workbook
 footprint reads before = record { reads = reads; touched = before }
+
+-- what a new value of an element that was there reads: the array, and the element
+abbrev pub element_reads : Name → Index → List Pattern
+element_reads a i = p.One (c.Object a) ∷ p.One (c.Element a i) ∷ []
+
+-- what such a new value reads, and what the element was before
+abbrev pub set_footprint : Name → Index → Option Value → Footprint workbook
+set_footprint a i before = footprint (element_reads a i) (record { cell = c.Element a i; value = before } ∷ [])
 
 -- the same footprints, with another one, or none, at a number
 abbrev pub with_footprint : Footprints → ℕ → Option (Footprint workbook) → Footprints

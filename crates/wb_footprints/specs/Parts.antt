@@ -1,6 +1,5 @@
 -- Which numbers stand at which parts of an object.
 use Rattle.std.specs.Prelude.{ℕ, Bool, false, ◌||◌, List}
-use Rattle.std.specs.List.{list_any}
 use Rattle.std.specs.Cmp.Lexicographic.{slice_cmp}
 use Rattle.std.specs.Ordering.{nat_cmp, eq_by_cmp}
 use Rattle.wb_cells.specs.declared.values.index.Index.{Index}

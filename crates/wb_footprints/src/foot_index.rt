@@ -1,18 +1,21 @@
 //! The index itself: footprints come and go by their numbers.
 
-ghost use Rattle.std.specs.Prelude.{◌≡◌, [], ◌∷◌, ◌++◌, Option, Some, None, OnOk, OnErr};
+ghost use Rattle.std.specs.Prelude.{◌≡◌, ◌++◌, Option, Some, None, OnOk, OnErr};
 ghost use Rattle.wb_cells.specs.declared.cells.value.Value.{Value};
 ghost use Rattle.wb_cells.specs.Cells.{Changes};
 ghost use Rattle.wb_cells.specs.Reads.{all_read, patterns_of};
 ghost use Rattle.wb_cells.specs.Runs.{all_changes};
-ghost use Rattle.wb_footprints.specs.Footprints.{Footprints, IsIndexOf, footprint, with_footprint};
+ghost use Rattle.wb_footprints.specs.Footprints.{Footprints, IsIndexOf, footprint, set_footprint, with_footprint};
 
-use crate::marks::cell_lists::{mark, mark_all, mark_runs, unmark, unmark_all, unmark_runs};
+use crate::marks::cell_lists::{
+    mark_all, mark_element, mark_runs, unmark_all, unmark_element, unmark_runs,
+};
 use crate::marks::place_marks::PlaceMarks;
-use crate::marks::reading::{mark_reads, read_each, read_others, unmark_reads, unread_each};
+use crate::marks::reading::{mark_reads, read_each, unmark_reads, unread_each};
 use crate::places::marking::Marking;
+use crate::places::part::{Part, Slot};
 use std::alloc::Global;
-use wb_cells::{Cell, ChangeRun, Changes, Pattern, ReadRun};
+use wb_cells::{AnyIndex, ChangeRun, Changes, Name, Pattern, ReadRun};
 use wb_range::NoMemory;
 
 /// An index of footprints by the cells that they read and touched. It has no footprint in it: its contracts speak of those that it
@@ -68,21 +71,20 @@ impl FootIndex {
         Ok(())
     }
 
-    /// Adds a footprint at a number that has none, which touched one cell, by what it read and that cell; or nothing where no
-    /// memory is left.
-    pub fn add_one(&mut self, number: u64, reads: &[Pattern], cell: &Cell) -> Result<(), NoMemory>
+    /// Adds the footprint of a new value of an element that was there, at a number that has none; or nothing where no memory is
+    /// left. That it read the element is told by that it touched it.
+    pub fn add_set(&mut self, number: u64, array: &Name, index: &AnyIndex) -> Result<(), NoMemory>
         ensures ok { OnOk result ((footprints : Footprints) (before : Option Value) → IsIndexOf self.old footprints → footprints number ≡ None →
-            IsIndexOf self.new (with_footprint footprints number (Some (footprint reads.now (record { cell = cell.now; value = before } ∷ []))))) }
+            IsIndexOf self.new (with_footprint footprints number (Some (set_footprint array.now index.now before)))) }
         ensures err { OnErr result ((footprints : Footprints) → IsIndexOf self.old footprints → footprints number ≡ None → IsIndexOf self.new footprints) }
     {
-        if mark(&mut self.touched, Marking::Families, cell, number).is_err() {
-            unmark(&mut self.touched, Marking::Families, cell, number);
+        if mark_element(&mut self.touched, array, index, number).is_err() {
+            unmark_element(&mut self.touched, array, index, number);
             return Err(NoMemory);
         }
-        let read = &mut self.read;
-        if read_others(read, reads, cell, number).is_err() {
-            unread_each(read, reads, number);
-            unmark(&mut self.touched, Marking::Families, cell, number);
+        let object = Part::Slot(Slot::Object);
+        if self.read.add_part(array, &object, number).is_err() {
+            unmark_element(&mut self.touched, array, index, number);
             return Err(NoMemory);
         }
         Ok(())
@@ -97,14 +99,15 @@ impl FootIndex {
         unmark_reads(&mut self.read, reads, runs, number);
     }
 
-    /// Takes away the footprint of a number that touched one cell, by what it read and that cell.
-    pub fn take_one(&mut self, number: u64, reads: &[Pattern], cell: &Cell)
+    /// Takes away the footprint of a new value of an element that was there.
+    pub fn take_set(&mut self, number: u64, array: &Name, index: &AnyIndex)
         ensures { (footprints : Footprints) (before : Option Value) → IsIndexOf self.old footprints →
-            footprints number ≡ Some (footprint reads.now (record { cell = cell.now; value = before } ∷ [])) →
-            IsIndexOf self.new (with_footprint footprints number None) }
+            footprints number ≡ Some (set_footprint array.now index.now before) → IsIndexOf self.new (with_footprint footprints number None) }
     {
-        unmark(&mut self.touched, Marking::Families, cell, number);
-        unread_each(&mut self.read, reads, number);
+        unmark_element(&mut self.touched, array, index, number);
+        let read = &mut self.read;
+        read.take_part(array, &Part::Slot(Slot::Object), number);
+        read.take_part(array, &Part::Element(*index), number);
     }
 
     /// Adds a footprint at a number that has none, which read the patterns and then the cells of runs, and touched just these cells;

@@ -132,3 +132,12 @@ called_more m c q p o called name is there =
       | true ↦ λ same h. subst HasName (sym (tied cell_order q c same)) name
       | false ↦ λ other h. called q h
     ] refl (subst (λ (x : Option ℕ). IsSome x) is there)
+
+-- a cell that gets another place and then its own again
+pub put_back : (c q : Cell) (next p : ℕ) (get : Cell → Option ℕ) (now : Option ℕ) → now ≡ cond (eq_by_cmp cell_cmp c q) (Some next) (get q) → get c ≡ Some p →
+    cond (eq_by_cmp cell_cmp c q) (Some p) now ≡ get q
+put_back c q next p get now is had =
+    elim (eq_by_cmp cell_cmp c q) as (λ b. eq_by_cmp cell_cmp c q ≡ b → now ≡ cond b (Some next) (get q) → cond b (Some p) now ≡ get q) [
+      | true ↦ λ same h. sym had ∙ ap get (tied cell_order c q same)
+      | false ↦ λ other h. h
+    ] refl is

@@ -1,11 +1,14 @@
 //! Changes laid over others, and their list.
 
-ghost use Rattle.std.specs.Prelude.{◌≡◌, ◌∷◌, [], None, IfOk, OnOk};
+ghost use Rattle.std.specs.Prelude.{◌≡◌, ◌∷◌, [], Some, cond, IfOk, IfSome, IfNone, OnOk};
+ghost use Rattle.std.specs.BTreeMap as tree;
+ghost use Rattle.std.specs.Ordering.{eq_by_cmp};
 ghost use Rattle.selective_undo.specs.Changes.{AllOnce};
 ghost use Rattle.selective_undo.specs.Together.{together};
+ghost use Rattle.wb_cells.specs.declared.cells.cell.Cell.{Cell};
 ghost use Rattle.wb_cells.specs.Cells.{cell_cmp};
 ghost use Rattle.wb_cells.specs.Runs.{changes_in, all_changes};
-ghost use Rattle.wb_layers.specs.Places.{IsFound, place_in};
+ghost use Rattle.wb_layers.specs.Places.{IsFound};
 
 use crate::beginning::is_called;
 use std::alloc::Global;
@@ -13,24 +16,24 @@ use std::collections::BTreeMap;
 use wb_cells::{Cell, CellChange, ChangeRun, Changes, Delta};
 use wb_range::NoMemory;
 
-// A change and its place, behind the others.
-fn push(
-    changes: &mut Vec<CellChange>,
+// The place of a cell, if it has one. To a cell without a place the next one is given: one search for both.
+fn place_or_next(
     places: &mut BTreeMap<Cell, usize>,
-    change: &CellChange,
-) -> Result<(), NoMemory>
-    requires found { IsFound places.old changes.old.items }
-    requires new { place_in changes.old.items change.now.cell ≡ None }
-    ensures laid { OnOk result (changes.new.items ≡ together cell_cmp changes.old.items (change.now ∷ [])) }
-    ensures found { OnOk result (IsFound places.new changes.new.items) }
+    cell: &Cell,
+    next: usize,
+) -> Result<Option<usize>, NoMemory>
+    ensures place { IfOk result (λ o. o ≡ tree.get cell_cmp places.old cell.now) }
+    ensures had { IfOk result (λ o. IfSome o (λ p. (c : Cell) → tree.get cell_cmp places.new c ≡ tree.get cell_cmp places.old c)) }
+    ensures given { IfOk result (λ o. IfNone o ((c : Cell) →
+        tree.get cell_cmp places.new c ≡ cond (eq_by_cmp cell_cmp c cell.now) (Some next) (tree.get cell_cmp places.old c))) }
 {
-    let cell = change.cell();
-    is_called(&cell);
-    let place = changes.len();
-    changes.push(*change)?;
-    match places.insert(cell, place) {
-        Ok(_) => Ok(()),
+    match places.insert(*cell, next) {
         Err(_) => Err(NoMemory),
+        Ok(None) => Ok(None),
+        Ok(Some(place)) => match places.insert(*cell, place) {
+            Err(_) => Err(NoMemory),
+            Ok(_) => Ok(Some(place)),
+        },
     }
 }
 
@@ -44,14 +47,15 @@ fn lay_one(
     ensures laid { OnOk result (changes.new.items ≡ together cell_cmp changes.old.items (change.now ∷ [])) }
     ensures found { OnOk result (IsFound places.new changes.new.items) }
 {
-    let place = places.get(&change.cell()).copied();
+    let cell = change.cell();
+    is_called(&cell);
+    let next = changes.len();
+    let place = place_or_next(places, &cell, next)?;
     match place {
-        Some(place) => {
-            changes[place] = *change;
-            Ok(())
-        }
-        None => push(changes, places, change),
+        Some(place) => changes[place] = *change,
+        None => changes.push(*change)?,
     }
+    Ok(())
 }
 
 // Lays the changes of a run over the others.
@@ -65,6 +69,7 @@ fn lay_run(
     ensures laid { OnOk result (changes.new.items ≡ together cell_cmp changes.old.items (changes_in run.now.form)) }
     ensures found { OnOk result (IsFound places.new changes.new.items) }
 {
+    changes.reserve(run.len())?;
     for at in 0..run.len() {
         let change = run.change(at);
         lay_one(changes, places, &change)?;

@@ -157,6 +157,9 @@ impl BlockMarks {
     pub fn least_after(&self, index: &AnyIndex, after: u64) -> Option<u64>
         ensures { IsLeastAfter (in_reaches self.now.reaches.items index.now) after result }
     {
+        if self.reaches.is_empty() {
+            return None;
+        }
         self.least_in(&Indices::one(index), after)
     }
 

@@ -6,15 +6,18 @@ ghost use Rattle.wb_cells.specs.declared.values.index.Index.{Index};
 ghost use Rattle.wb_footprints.specs.Places.{family, place_marked};
 ghost use Rattle.wb_footprints.specs.declared.places.place.Place.{Place};
 ghost use Rattle.wb_cells.specs.Runs.{changes_in, all_changes, in_first, cell_of};
+ghost use Rattle.wb_cells.specs.declared.cells.cell.Cell.TheVariants as cell;
+ghost use Rattle.wb_footprints.specs.declared.places.marking.Marking.TheVariants.{Families};
 ghost use Rattle.wb_footprints.specs.Rows.{AreOfRow};
 ghost use Rattle.wb_footprints.specs.Footprints.{at_cell, marked_at, run_marked, IsUnmarked};
 
 use crate::marks::blocks::NewBlock;
 use crate::marks::place_marks::PlaceMarks;
 use crate::places::marking::Marking;
+use crate::places::part::{Part, Slot};
 use crate::places::place::own;
 use crate::places::runs::{LEAST, Run, family_of, row_of};
-use wb_cells::{Cell, CellChange, ChangeRun, Changes, IndexedRow};
+use wb_cells::{AnyIndex, Cell, CellChange, ChangeRun, Changes, IndexedRow, Name};
 use wb_range::NoMemory;
 
 pub(crate) fn mark(
@@ -40,6 +43,28 @@ pub(crate) fn unmark(marks: &mut PlaceMarks, marking: Marking, cell: &Cell, numb
     if let Some(place) = marking.family(cell) {
         marks.take(&place, number);
     }
+}
+
+/// Marks an element, and the family of it: as `mark`, with no cell made.
+pub(crate) fn mark_element(
+    marks: &mut PlaceMarks,
+    array: &Name,
+    index: &AnyIndex,
+    number: u64,
+) -> Result<(), NoMemory>
+    ensures ok { OnOk result (Sets (place_marked marks.old) (place_marked marks.new) (at_cell Families (cell.Element array.now index.now)) number true) }
+    ensures err { OnErr result (Stays (place_marked marks.old) (place_marked marks.new) (at_cell Families (cell.Element array.now index.now)) number) }
+{
+    marks.add_part(array, &Part::Element(*index), number)?;
+    marks.add_part(array, &Part::Slot(Slot::Elements), number)
+}
+
+/// Takes a number away from an element, and from the family of it: as `unmark`, with no cell made.
+pub(crate) fn unmark_element(marks: &mut PlaceMarks, array: &Name, index: &AnyIndex, number: u64)
+    ensures { Clears (place_marked marks.old) (place_marked marks.new) (at_cell Families (cell.Element array.now index.now)) number }
+{
+    marks.take_part(array, &Part::Element(*index), number);
+    marks.take_part(array, &Part::Slot(Slot::Elements), number);
 }
 
 // Marks the cells of a run one by one.

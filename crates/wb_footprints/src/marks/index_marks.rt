@@ -19,7 +19,7 @@ use crate::marks::point_marks::PointMarks;
 use crate::marks::text_marks::{join_texts, least_text};
 use crate::places::indices::{HeldIndices, Indices};
 use std::alloc::Global;
-use wb_cells::{AnyIndex, Index};
+use wb_cells::{AnyIndex, Index, coordinates_of};
 use wb_range::NoMemory;
 use wb_sets::Label;
 
@@ -48,6 +48,9 @@ impl IndexMarks {
         ensures ok { OnOk result (Sets (index_marked self.old) (index_marked self.new) (is_same_index index.now) number true) }
         ensures err { OnErr result (self.new ≡ self.old) }
     {
+        if let Some(line) = coordinates_of::<1>(index) {
+            return self.points.add_single(line[0], number);
+        }
         match index.index() {
             Index::Point(point) => self.points.add(point, number),
             Index::Text(label) => self.texts.add(label, number),
@@ -66,6 +69,10 @@ impl IndexMarks {
         ensures { Clears (index_marked self.old) (index_marked self.new) (is_same_index index.now) number }
     {
         self.blocks.take(number);
+        if let Some(line) = coordinates_of::<1>(index) {
+            self.points.take_single(line[0], number);
+            return;
+        }
         match index.index() {
             Index::Point(point) => self.points.take(point, number),
             Index::Text(label) => self.texts.take(label, number),
@@ -107,6 +114,9 @@ impl IndexMarks {
     fn least_alone_at(&self, index: &AnyIndex, after: u64) -> Option<u64>
         ensures { IsLeastAfter (alone_marked self.now index.now) after result }
     {
+        if let Some(line) = coordinates_of::<1>(index) {
+            return self.points.single_after(line[0], after);
+        }
         match index.index() {
             Index::Point(point) => self.points.least_after(point, after),
             Index::Text(label) => self.texts.least_after(label, after),

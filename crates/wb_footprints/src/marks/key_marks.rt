@@ -57,6 +57,9 @@ impl<K: Copy + Ord> Marks<K> {
     pub fn least_after(&self, key: K, after: u64) -> Option<u64>
         ensures { IsLeastAfter (marked K.cmp self.now key) after result }
     {
+        if self.is_empty() {
+            return None;
+        }
         let from = (Bound::Excluded((key, after)), Bound::Unbounded);
         match self.set.range(from).next() {
             None => None,

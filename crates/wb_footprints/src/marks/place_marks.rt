@@ -3,6 +3,7 @@
 ghost use Rattle.std.specs.Prelude.{◌≡◌, ℕ, ◌&&◌, false, true, IsTrue, OnOk, OnErr};
 ghost use Rattle.wb_cells.specs.Runs.{cell_of};
 ghost use Rattle.wb_footprints.specs.declared.places.place.Place.{Place};
+ghost use Rattle.wb_footprints.specs.declared.places.place.Place.TheVariants as place;
 ghost use Rattle.std.specs.List.{list_any};
 ghost use Rattle.wb_footprints.specs.Relation.{Sets, Clears, IsLeastAfter, JoinedAfter};
 ghost use Rattle.wb_cells.specs.declared.values.index.Index.{Index};
@@ -13,9 +14,10 @@ use crate::marks::key_marks::Marks;
 use crate::marks::numbers::Numbers;
 use crate::marks::object_marks::ObjectMarks;
 use crate::places::indices::Indices;
+use crate::places::part::Part;
 use crate::places::place::Place;
 use std::alloc::Global;
-use wb_cells::IndexedRow;
+use wb_cells::{IndexedRow, Name};
 use wb_range::NoMemory;
 
 /// Numbers at places.
@@ -38,6 +40,14 @@ impl PlaceMarks {
         }
     }
 
+    /// Adds a number at a part of the object of a name.
+    pub fn add_part(&mut self, name: &Name, part: &Part, number: u64) -> Result<(), NoMemory>
+        ensures ok { OnOk result (Sets (place_marked self.old) (place_marked self.new) (is_same_place (place.Of name.now part.now)) number true) }
+        ensures err { OnErr result ((p : Place) (n : ℕ) → place_marked self.new p n ≡ place_marked self.old p n) }
+    {
+        self.parts.add(*name, part, number)
+    }
+
     /// Adds a number at a place.
     pub fn add(&mut self, place: &Place, number: u64) -> Result<(), NoMemory>
         ensures ok { OnOk result (Sets (place_marked self.old) (place_marked self.new) (is_same_place place.now) number true) }
@@ -45,7 +55,7 @@ impl PlaceMarks {
     {
         match place {
             Place::Objects => self.objects.add(true, number),
-            Place::Of(name, part) => self.parts.add(*name, part, number),
+            Place::Of(name, part) => self.add_part(name, part, number),
         }
     }
 
@@ -56,13 +66,20 @@ impl PlaceMarks {
         self.parts.add_block(row.name(), row.kind(), block)
     }
 
+    /// Takes a number away from a part of the object of a name, and from others where it stands in a block with it.
+    pub fn take_part(&mut self, name: &Name, part: &Part, number: u64)
+        ensures { Clears (place_marked self.old) (place_marked self.new) (is_same_place (place.Of name.now part.now)) number }
+    {
+        self.parts.take(*name, part, number);
+    }
+
     /// Takes a number away from a place, and from others where it stands in a block with it.
     pub fn take(&mut self, place: &Place, number: u64)
         ensures { Clears (place_marked self.old) (place_marked self.new) (is_same_place place.now) number }
     {
         match place {
             Place::Objects => self.objects.take(true, number),
-            Place::Of(name, part) => self.parts.take(*name, part, number),
+            Place::Of(name, part) => self.take_part(name, part, number),
         }
     }
 
@@ -80,13 +97,20 @@ impl PlaceMarks {
         self.parts.least_in(row.name(), row.kind(), indices, after)
     }
 
+    /// The least number above `after` at a part of the object of a name.
+    pub fn part_after(&self, name: &Name, part: &Part, after: u64) -> Option<u64>
+        ensures { IsLeastAfter (place_marked self.now (place.Of name.now part.now)) after result }
+    {
+        self.parts.least_after(*name, part, after)
+    }
+
     /// The least number above `after` at a place.
     pub fn least_after(&self, place: &Place, after: u64) -> Option<u64>
         ensures { IsLeastAfter (place_marked self.now place.now) after result }
     {
         match place {
             Place::Objects => self.objects.least_after(true, after),
-            Place::Of(name, part) => self.parts.least_after(*name, part, after),
+            Place::Of(name, part) => self.part_after(name, part, after),
         }
     }
 

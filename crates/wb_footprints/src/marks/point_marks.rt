@@ -1,6 +1,6 @@
 //! Which numbers stand at which points.
 
-ghost use Rattle.std.specs.Prelude.{◌≡◌, ℕ, ◌<◌, ◌≤◌, ◌||◌, false, true, Some, None, IsTrue, OnOk, OnErr, length, slice_index_or, if◌then◌else◌};
+ghost use Rattle.std.specs.Prelude.{◌≡◌, ℕ, ◌<◌, ◌≤◌, ◌||◌, [], ◌∷◌, false, true, Some, None, IsTrue, OnOk, OnErr, length, slice_index_or, if◌then◌else◌};
 ghost use Rattle.std.specs.List.{list_any};
 ghost use Rattle.std.specs.Ordering.{eq_by_cmp, int_cmp};
 ghost use Rattle.wb_footprints.specs.Marks.{marked};
@@ -44,25 +44,51 @@ impl PointMarks {
         self.others.is_empty()
     }
 
+    /// Adds a number at the point of one coordinate.
+    pub fn add_single(&mut self, coordinate: i64, number: u64) -> Result<(), NoMemory>
+        ensures ok { OnOk result (Sets (point_marked self.old) (point_marked self.new) (eq_by_cmp point_cmp (coordinate ∷ [])) number true) }
+        ensures err { OnErr result (self.new ≡ self.old) }
+    {
+        self.single.add(coordinate, number)
+    }
+
     /// Adds a number at a point.
     pub fn add(&mut self, point: Point, number: u64) -> Result<(), NoMemory>
         ensures ok { OnOk result (Sets (point_marked self.old) (point_marked self.new) (eq_by_cmp point_cmp point) number true) }
         ensures err { OnErr result (self.new ≡ self.old) }
     {
         match coordinate_of(&point) {
-            Some(coordinate) => self.single.add(coordinate, number),
+            Some(coordinate) => self.add_single(coordinate, number),
             None => self.others.add(point, number),
         }
+    }
+
+    /// Takes a number away from the point of one coordinate.
+    pub fn take_single(&mut self, coordinate: i64, number: u64)
+        ensures { Sets (point_marked self.old) (point_marked self.new) (eq_by_cmp point_cmp (coordinate ∷ [])) number false }
+    {
+        self.single.take(coordinate, number);
+        self.others.take(Point::single(coordinate), number);
     }
 
     /// Takes a number away from a point.
     pub fn take(&mut self, point: Point, number: u64)
         ensures { Sets (point_marked self.old) (point_marked self.new) (eq_by_cmp point_cmp point) number false }
     {
-        if let Some(coordinate) = coordinate_of(&point) {
-            self.single.take(coordinate, number);
+        match coordinate_of(&point) {
+            Some(coordinate) => self.take_single(coordinate, number),
+            None => self.others.take(point, number),
         }
-        self.others.take(point, number);
+    }
+
+    /// The least number above `after` at the point of one coordinate.
+    pub fn single_after(&self, coordinate: i64, after: u64) -> Option<u64>
+        ensures { IsLeastAfter (point_marked self.now (coordinate ∷ [])) after result }
+    {
+        earlier(
+            self.single.least_after(coordinate, after),
+            self.others.least_after(Point::single(coordinate), after),
+        )
     }
 
     /// The least number above `after` at a point.

@@ -1,17 +1,16 @@
 //! Marks for the patterns that an edit read.
 
-ghost use Rattle.std.specs.Prelude.{◌≡◌, ℕ, [], ◌∷◌, ◌++◌, true, not, ◌&&◌, OnOk, OnErr};
+ghost use Rattle.std.specs.Prelude.{[], ◌∷◌, ◌++◌, true, OnOk, OnErr};
 ghost use Rattle.wb_cells.specs.Reads.{all_read, read_in, patterns_of};
 ghost use Rattle.wb_footprints.specs.Relation.{Sets, Stays, Clears};
-ghost use Rattle.wb_footprints.specs.Places.{place_marked, place_of, is_same_place};
-ghost use Rattle.wb_footprints.specs.declared.places.place.Place.{Place};
-ghost use Rattle.wb_footprints.specs.Footprints.{read_at, read_beside, is_one};
+ghost use Rattle.wb_footprints.specs.Places.{place_marked};
+ghost use Rattle.wb_footprints.specs.Footprints.{read_at};
 
 use crate::marks::cell_lists::{mark_all, unmark_all};
 use crate::marks::place_marks::PlaceMarks;
 use crate::places::marking::Marking;
 use crate::places::place::place_of;
-use wb_cells::{Cell, Changes, Pattern, ReadRun};
+use wb_cells::{Changes, Pattern, ReadRun};
 use wb_range::NoMemory;
 
 pub(crate) fn read_each(
@@ -24,49 +23,6 @@ pub(crate) fn read_each(
 {
     for x in reads {
         marks.add(&place_of(x), number)?;
-    }
-    Ok(())
-}
-
-// Whether a pattern names one cell, and it is this one.
-fn is_one(pattern: &Pattern, cell: &Cell) -> bool
-    ensures { result ≡ is_one pattern.now cell.now }
-{
-    match pattern {
-        Pattern::One(one) => one.cell() == *cell,
-        Pattern::Objects | Pattern::Members(_) | Pattern::Uses(_) | Pattern::Elements(_) => false,
-    }
-}
-
-// Marks a pattern, but where it names a cell alone.
-fn read_unless(
-    marks: &mut PlaceMarks,
-    pattern: &Pattern,
-    cell: &Cell,
-    number: u64,
-) -> Result<(), NoMemory>
-    ensures ok { OnOk result (Sets (place_marked marks.old) (place_marked marks.new)
-        (λ q. is_same_place (place_of pattern.now) q && not (is_one pattern.now cell.now)) number true) }
-    ensures err { OnErr result ((q : Place) (n : ℕ) → place_marked marks.new q n ≡ place_marked marks.old q n) }
-{
-    if is_one(pattern, cell) {
-        return Ok(());
-    }
-    marks.add(&place_of(pattern), number)
-}
-
-/// Marks the patterns, but for those that name a cell alone.
-pub(crate) fn read_others(
-    marks: &mut PlaceMarks,
-    reads: &[Pattern],
-    cell: &Cell,
-    number: u64,
-) -> Result<(), NoMemory>
-    ensures ok { OnOk result (Sets (place_marked marks.old) (place_marked marks.new) (read_beside cell.now reads.now) number true) }
-    ensures err { OnErr result (Stays (place_marked marks.old) (place_marked marks.new) (read_beside cell.now reads.now) number) }
-{
-    for x in reads {
-        read_unless(marks, x, cell, number)?;
     }
     Ok(())
 }

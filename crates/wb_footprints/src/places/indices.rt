@@ -139,7 +139,7 @@ impl Indices {
     }
 
     /// Whether all of the other indices are seen to be among these: a test that finds one of those finds one of these.
-    pub fn has_all(&self, others: &Indices) -> bool
+    pub(crate) fn has_all(&self, others: &Indices) -> bool
         ensures { IsTrue result → (f : Index → Bool) → list_any f others.now ≡ true → list_any f self.now ≡ true }
     {
         match &self.held {

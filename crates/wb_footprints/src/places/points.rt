@@ -162,7 +162,7 @@ impl Points {
     }
 
     /// Whether all of the other points are among these, up to the first that is not.
-    pub fn has_all(&self, others: &Points) -> bool
+    pub(crate) fn has_all(&self, others: &Points) -> bool
         ensures { IsTrue result → list_all (in_points self.now) others.now ≡ true }
     {
         for at in 0..others.len() {

@@ -78,6 +78,9 @@ impl Run {
         if !self.row.is_same(&other.row) {
             return false;
         }
+        if self.indices.is_same(&other.indices) {
+            return true;
+        }
         self.indices.has_all(&other.indices)
     }
 

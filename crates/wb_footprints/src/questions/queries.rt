@@ -2,6 +2,8 @@
 
 ghost use Rattle.std.specs.Prelude.{◌≡◌, ◌<◌, [], ◌∷◌, ◌++◌, length, IfSome};
 ghost use Rattle.selective_undo.specs.Log.{blocks_undo, blocks_redo};
+ghost use Rattle.wb_cells.specs.declared.cells.cell.Cell.TheVariants as cell;
+ghost use Rattle.wb_cells.specs.declared.cells.pattern.Pattern.TheVariants as pattern;
 ghost use Rattle.wb_cells.specs.Reads.{all_read, read_in, patterns_of};
 ghost use Rattle.wb_footprints.specs.Relation.{IsLeastAfter};
 ghost use Rattle.wb_footprints.specs.Footprints.{Footprints, IsIndexOf, footprint, any_met, met_by, touched_by, touched_under, touched_one_of};
@@ -12,9 +14,10 @@ ghost use Rattle.std.specs.List.{list_any};
 use crate::foot_index::FootIndex;
 use crate::marks::earlier::{earlier, is_next};
 use crate::places::marking::Marking;
+use crate::places::part::{Part, Slot};
 use crate::places::place::{family, own, place_of};
 use crate::places::runs::{LEAST, Run, family_of};
-use wb_cells::{Cell, CellChange, ChangeRun, Changes, Pattern, ReadRun};
+use wb_cells::{AnyIndex, Cell, CellChange, ChangeRun, Changes, Name, Pattern, ReadRun};
 
 impl FootIndex {
     /// The least number above `after` whose footprint read or touched the cell.
@@ -29,6 +32,27 @@ impl FootIndex {
             Some(family) => earlier(first, self.read.least_after(&family, after)),
             None => first,
         }
+    }
+
+    /// The least number above `after` whose footprint read or touched an element: as `met_after`, with no cell made.
+    pub fn element_met_after(&self, array: &Name, index: &AnyIndex, after: u64) -> Option<u64>
+        ensures { (footprints : Footprints) → IsIndexOf self.now footprints →
+            IsLeastAfter (λ n. met_by (footprints n) (cell.Element array.now index.now)) after result }
+    {
+        let element = Part::Element(*index);
+        let touched = self.touched.part_after(array, &element, after);
+        let first = earlier(touched, self.read.part_after(array, &element, after));
+        let elements = Part::Slot(Slot::Elements);
+        earlier(first, self.read.part_after(array, &elements, after))
+    }
+
+    /// The least number above `after` whose footprint touched what stands under a name: as `first_writer`, with no pattern made.
+    pub fn object_touched_after(&self, name: &Name, after: u64) -> Option<u64>
+        ensures { (footprints : Footprints) → IsIndexOf self.now footprints →
+            IsLeastAfter (λ n. touched_one_of (footprints n) (pattern.One (cell.Object name.now) ∷ [])) after result }
+    {
+        let object = Part::Slot(Slot::Object);
+        self.touched.part_after(name, &object, after)
     }
 
     /// The least number above `after` whose footprint touched the place of the pattern.

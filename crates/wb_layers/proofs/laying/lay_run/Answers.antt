@@ -4,7 +4,7 @@ use Rattle.wb_layers.proofs.Together.{together_nil, laid_more}
 use Rattle.wb_layers.proofs.laying.lay_run.Goals as goal
 
 pub loop-at-init : goal.loop-at-init
-loop-at-init c = record { laid = sym (together_nil c.args.changes.now.items); found = c.requires.found }
+loop-at-init c = rw c.in_ok-reserve.ensures.items (record { laid = sym (together_nil c.args.changes.now.items); found = c.requires.found })
 
 pub loop-at-preserved : goal.loop-at-preserved
 loop-at-preserved c =

@@ -1,4 +1,4 @@
-use Rattle.std.proofs.Common.{◌++◌, true, false, ◌||◌, refl, sym, ap, ◌∙◌}
+use Rattle.std.proofs.Common.{◌++◌, true, ◌||◌, refl, sym, ap, ◌∙◌}
 use Rattle.wb_cells.specs.Reads.{all_read}
 use Rattle.wb_footprints.specs.Places.{place_marked}
 use Rattle.wb_footprints.specs.declared.places.marking.Marking.TheVariants.{Own}

@@ -1,7 +1,7 @@
 use Rattle.std.proofs.Common.{map, sym, ap, ◌∙◌}
 use Rattle.std.specs.List.{list_any}
 use Rattle.wb_cells.specs.declared.values.index.Index.TheVariants.{Text}
-use Rattle.wb_cells.specs.Runs.{cell_of, labelled_changes}
+use Rattle.wb_cells.specs.Runs.{labelled_changes}
 use Rattle.wb_footprints.specs.Footprints.{run_cells, cells_of}
 use Rattle.wb_footprints.proofs.Rows.{cells_at, labelled_cells}
 use Rattle.wb_footprints.proofs.places.runs.labelled_run.Goals as goal

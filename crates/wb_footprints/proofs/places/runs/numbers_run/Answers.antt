@@ -3,7 +3,7 @@ use Rattle.std.specs.List.{list_any}
 use Rattle.std.proofs.lemmas.List.{length-map}
 use Rattle.std.proofs.lemmas.Slice.Zip.{firsts-zip}
 use Rattle.wb_cells.specs.declared.values.index.Index.TheVariants.{Point}
-use Rattle.wb_cells.specs.Runs.{cell_of, packed_changes, numbered_entries}
+use Rattle.wb_cells.specs.Runs.{packed_changes, numbered_entries}
 use Rattle.wb_rect.specs.Product.{product}
 use Rattle.wb_footprints.specs.Footprints.{run_cells, cells_of}
 use Rattle.wb_footprints.proofs.Rows.{cells_at, packed_cells}

@@ -1,7 +1,7 @@
 use Rattle.std.proofs.Common.{map, sym, ap, ◌∙◌}
 use Rattle.std.specs.List.{list_any}
 use Rattle.wb_cells.specs.declared.values.index.Index.TheVariants.{Point}
-use Rattle.wb_cells.specs.Runs.{cell_of, packed_changes, rectangle_entries}
+use Rattle.wb_cells.specs.Runs.{packed_changes, rectangle_entries}
 use Rattle.wb_rect.specs.Product.{product}
 use Rattle.wb_footprints.specs.Footprints.{run_cells, cells_of}
 use Rattle.wb_footprints.proofs.Rows.{cells_at, packed_cells, firsts_of_rectangle}

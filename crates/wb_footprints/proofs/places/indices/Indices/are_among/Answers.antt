@@ -1,4 +1,4 @@
-use Rattle.std.proofs.Common.{◌≡◌, true, sym, ap, subst, ◌∙◌}
+use Rattle.std.proofs.Common.{sym, ap, ◌∙◌}
 use Rattle.std.specs.List.{list_any}
 use Rattle.wb_footprints.specs.HeldIndices.{indices_of}
 use Rattle.wb_footprints.proofs.AllAmong.{points_found}

@@ -1,4 +1,4 @@
-use Rattle.std.proofs.Common.{◌≡◌, get_or, sym}
+use Rattle.std.proofs.Common.{sym}
 use Rattle.wb_footprints.proofs.Through.{within_waits}
 use Rattle.wb_footprints.proofs.questions.swept.SweptCells.covers.Goals as goal
 
