@@ -17,6 +17,7 @@ use Rattle.wb_edit.specs.declared.command.Command.TheVariants.{Set}
 use Rattle.wb_edit.specs.declared.edit.Edit as command
 use Rattle.wb_edit.specs.declared.edit.Edit.TheVariants.{Command as OneCommand}
 use Rattle.wb_edit.specs.Edits.{meaning, IsValid}
+use Rattle.wb_footprints.specs.Footprints.{element_reads}
 use Rattle.wb_log.specs.declared.entry.Before.TheVariants.{Number}
 use Rattle.wb_log.specs.declared.entry.LoggedEdit as kept
 use Rattle.wb_log.specs.declared.entry.UndoData.{UndoData}
@@ -24,7 +25,7 @@ use Rattle.wb_log.specs.declared.index.EditIndex.{EditIndex}
 use Rattle.wb_log.specs.Indexed.{Keeps}
 use Rattle.wb_log.specs.Kept.{logged, log, numbered, numbered_entries, Shows}
 use Rattle.wb_log.specs.Past.{Past, meant, AreValid}
-use Rattle.wb_log.specs.Records.{element_reads, cell_before}
+use Rattle.wb_log.specs.Records.{cell_before}
 use Rattle.wb_log.proofs.Entered.{more_indexed}
 use Rattle.wb_log.proofs.Entries.{history-log, numbers_more, more_kept}
 use Rattle.wb_log.proofs.Seen.{seen}

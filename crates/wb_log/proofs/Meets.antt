@@ -1,13 +1,10 @@
 -- The first later edit that meets one cell.
-use Rattle.std.proofs.Common.{◌≡◌, ℕ, ◌+◌, Bool, true, false, ◌||◌, if◌then◌else◌, List, [], ◌∷◌, Option, Some, None, option_map, refl, ap, ◌∙◌}
+use Rattle.std.proofs.Common.{◌≡◌, ℕ, ◌+◌, Bool, true, false, ◌||◌, if◌then◌else◌, List, [], ◌∷◌, Option, Some, None, refl, ap, ◌∙◌}
 use Rattle.selective_undo.specs.Log.{Footprint, blocks_undo, first_from}
 use Rattle.wb_cells.specs.declared.cells.cell.Cell.{Cell}
-use Rattle.wb_cells.specs.Cells.{Changes}
 use Rattle.wb_cells.specs.Schema.{workbook}
 use Rattle.wb_footprints.specs.Footprints.{met_by}
 use Rattle.wb_log.specs.declared.entry.Before.{Before}
-use Rattle.wb_log.specs.declared.entry.LoggedEdit as kept
-use Rattle.wb_log.specs.Kept.{footprint, kept_in}
 use Rattle.wb_log.specs.Records.{cell_before}
 
 or_false : (a : Bool) → a || false ≡ a
@@ -24,13 +21,3 @@ pub first_like : {X : Type 0} (p q : X → Bool) → ((x : X) → p x ≡ q x) �
 first_like p q e n [] = refl
 first_like p q e n (x ∷ xs) =
     ap (λ (b : Bool). if b then Some n else first_from p (n + 1) xs) (e x) ∙ ap (λ (r : Option ℕ). if q x then Some n else r) (first_like p q e (n + 1) xs)
-
--- what takes an edit back is what its footprint touched
-pub kept_before : (x : kept.LoggedEdit) (b : Changes) → option_map (λ k. k.inverse) x.kept ≡ Some b →
-    (f : Footprint workbook) × (kept_in x ≡ Some f) × (b ≡ f.touched)
-kept_before x b is =
-    elim x.kept as (λ o. option_map (λ k. k.inverse) o ≡ Some b →
-    (f : Footprint workbook) × (option_map (λ k. footprint k.footprint k.inverse) o ≡ Some f) × (b ≡ f.touched)) [
-      | Some q ↦ λ h. (footprint q.footprint q.inverse, refl, let e : b ≡ q.inverse = cc in e)
-      | None ↦ λ h. cc
-    ] is

@@ -18,7 +18,7 @@ use Rattle.wb_edit.specs.declared.command.Command.TheVariants.{Set}
 use Rattle.wb_edit.specs.declared.edit.Edit as command
 use Rattle.wb_edit.specs.declared.edit.Edit.TheVariants.{Command as OneCommand}
 use Rattle.wb_edit.specs.declared.refusal.Refusal.TheVariants.{Blocked}
-use Rattle.wb_footprints.specs.Footprints.{Footprints, with_footprint, footprint, met_by, touched_by, read_by, touched_one_of}
+use Rattle.wb_footprints.specs.Footprints.{Footprints, with_footprint, footprint, met_by, touched_by, read_by, touched_one_of, element_reads}
 use Rattle.wb_footprints.specs.Places.{own, family}
 use Rattle.wb_footprints.proofs.Meeting.{at_family, met_at, named_under, redo_met}
 use Rattle.wb_log.specs.declared.entry.Before.TheVariants.{Number}
@@ -26,7 +26,7 @@ use Rattle.wb_log.specs.declared.entry.LoggedEdit as kept
 use Rattle.wb_log.specs.Indexed.{up_to}
 use Rattle.wb_log.specs.Kept.{Shows, PlansAgain, redo_blocker, numbered_entries, entries_meant}
 use Rattle.wb_log.specs.Past.{AreValid}
-use Rattle.wb_log.specs.Records.{element_reads, cell_before}
+use Rattle.wb_log.specs.Records.{cell_before}
 use Rattle.wb_log.specs.Replies.{RedoReply}
 use Rattle.wb_log.proofs.Redone.{blocked_plan}
 use Rattle.wb_log.proofs.Straight.{set_accepted, set_reads}

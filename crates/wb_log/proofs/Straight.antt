@@ -1,6 +1,7 @@
 -- A new value of an element that is there: it is accepted, and what it reads and takes back follows from what the element was.
 use Rattle.std.proofs.Common.{◌≡◌, ℤ, true, [], ◌∷◌, Option, Some, None, Ok, IsSome, refl, ap, ◌∙◌}
 use Rattle.std.specs.FinMap.{get}
+use Rattle.wb_footprints.specs.Footprints.{element_reads}
 use Rattle.selective_undo.specs.Edit.{outcome, reads, write}
 use Rattle.wb_book.proofs.Formed.{element_of}
 use Rattle.wb_book.specs.Kept.{element_set}
@@ -18,7 +19,6 @@ use Rattle.wb_edit.specs.Looks.{array_kind, is_there, fits, index_fits, element}
 use Rattle.wb_edit.specs.Trees.{Tree, judged}
 use Rattle.wb_edit.specs.Writes.{set_to}
 use Rattle.wb_edit.proofs.Trees.{seen_value}
-use Rattle.wb_log.specs.Records.{element_reads}
 
 pub key_fits : (kind : Kind) (i : Index) → is_key kind i ≡ true → fits kind i ≡ Ok tt
 key_fits kind i e = rw (e, fits) refl

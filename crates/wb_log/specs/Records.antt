@@ -15,6 +15,7 @@ use Rattle.wb_edit.specs.declared.asked_rectangle.AskedRectangle.TheVariants.{Ra
 use Rattle.wb_edit.specs.declared.edit.Edit as command
 use Rattle.wb_edit.specs.declared.edit.Edit.TheVariants.{Command as OneCommand}
 use Rattle.wb_edit.specs.declared.command.Command.TheVariants.{Set as SetTo, Copy as CopyTo, Irv as IrvTo, Add, Remove, Fill as FillWith}
+use Rattle.wb_footprints.specs.Footprints.{element_reads}
 use Rattle.wb_log.specs.declared.entry.Before.{Before}
 use Rattle.wb_log.specs.declared.entry.Before.TheVariants.{Number, Present, Nothing}
 use Rattle.wb_log.specs.declared.entry.Was.{Was}
@@ -34,10 +35,6 @@ use Rattle.wb_log.specs.declared.lent.LentCells.{LentCells}
 use Rattle.wb_log.specs.declared.lent.LentCells.TheVariants.{Listed as ListedCells, Filled as FilledOnes}
 use Rattle.wb_log.specs.Fills.{array_reads, held_cells, filled_in}
 use Rattle.wb_log.specs.Kept.{footprint}
-
--- what a new value of an element reads: the array, and the element
-abbrev pub element_reads : Name → Index → List Pattern
-element_reads a i = One (Object a) ∷ One (Element a i) ∷ []
 
 -- what a copy reads where both elements are there: both arrays, the element that it sets, and the one that it copies
 abbrev pub copy_reads : Name → Index → Name → Index → List Pattern

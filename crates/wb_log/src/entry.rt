@@ -9,10 +9,11 @@ ghost use Rattle.wb_edit.specs.declared.command.Command.TheVariants as command;
 ghost use Rattle.wb_edit.specs.declared.edit.Edit.TheVariants.{Command as OneCommand};
 ghost use Rattle.wb_edit.specs.Edits.{note_of};
 ghost use Rattle.wb_cells.specs.Reads.{all_read};
+ghost use Rattle.wb_footprints.specs.Footprints.{element_reads, set_footprint};
 ghost use Rattle.wb_log.specs.declared.entry.Before.TheVariants as before;
 ghost use Rattle.wb_log.specs.Kept.{kept_in};
 ghost use Rattle.wb_edit.specs.declared.asked_rectangle.AskedRectangle.TheVariants as asked_for;
-ghost use Rattle.wb_log.specs.Records.{element_reads, copy_reads, implicit_reads, member_edit, member_reads, filled_cell, fill_reads, value_before, before_in, cell_before};
+ghost use Rattle.wb_log.specs.Records.{copy_reads, implicit_reads, member_edit, member_reads, filled_cell, fill_reads, value_before, before_in, cell_before};
 ghost use Rattle.wb_log.specs.Records.{lent_edit, lent_footprint, lent_kept, shown, kept_of, held_of};
 ghost use Rattle.wb_log.specs.Sets.{NameAlike};
 
@@ -609,16 +610,16 @@ impl EditRecord {
         }
     }
 
-    /// The element that the edit set, with what it was, if that is all that it did, and it is in force.
-    pub(crate) fn element_set(&self) -> Option<(Cell, Before)>
-        ensures { IfSome result (λ r. option_map (λ k. k.inverse) self.now.kept ≡ Some (cell_before r.0 r.1)) }
+    /// The new value of an element that the edit is, with what the element was, if that is all that it is, and it is in force.
+    pub(crate) fn set_in_force(&self) -> Option<(ElementSet, Before)>
+        ensures { IfSome result (λ r. kept_in self.now ≡ Some (set_footprint r.0.array r.0.place (value_before r.1))) }
     {
         let RecordForm::Set(record) = &self.form else {
             return None;
         };
         match record.was.before() {
             None => None,
-            Some(was) => Some((record.element().cell(), was)),
+            Some(was) => Some((record.element(), was)),
         }
     }
 

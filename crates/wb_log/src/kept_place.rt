@@ -1,11 +1,13 @@
 //! The index of a record, in little room.
 
-ghost use Rattle.std.specs.Prelude.{◌≡◌, IfOk};
+ghost use Rattle.std.specs.Prelude.{◌≡◌, IfOk, IfSome};
+ghost use Rattle.wb_cells.specs.declared.values.index.Index.TheVariants as index_of;
 
 use std::alloc::Global;
 use std::marker::Model;
-use wb_cells::{AnyIndex, AsIndex};
+use wb_cells::{AnyIndex, AsIndex, Index};
 use wb_range::NoMemory;
+use wb_sets::ShortLabel;
 
 /// How an index is kept.
 #[derive(Drop)]
@@ -14,12 +16,16 @@ pub(crate) enum PlaceForm {
     Line([i64; 1]),
     /// A pair.
     Plane([i64; 2]),
-    /// Any other index, apart.
+    /// A triple.
+    Solid([i64; 3]),
+    /// A text of at most 23 bytes.
+    Short(ShortLabel),
+    /// A longer text, apart.
     Apart(Box<AnyIndex>),
 }
 
-/// An index in the room of a pair: most records of a history have an integer or a pair, and room for a text in each would be three
-/// times as much. Contracts see the index.
+/// An index in the room of a triple: few records of a history have a text of more than 23 bytes, and room for one in each would be
+/// twice as much. Contracts see the index.
 #[derive(Drop)]
 pub(crate) struct KeptPlace {
     form: PlaceForm,
@@ -35,7 +41,7 @@ impl Model for KeptPlace {
 }
 
 impl KeptPlace {
-    /// The index, to be kept; `NoMemory` where none is left for one that is neither an integer nor a pair.
+    /// The index, to be kept; `NoMemory` where none is left for a text of more than 23 bytes.
     pub(crate) fn new(alloc: Global, index: &AnyIndex) -> Result<KeptPlace, NoMemory>
         ensures { IfOk result (λ p. p ≡ index.now) }
     {
@@ -47,6 +53,16 @@ impl KeptPlace {
         if let Some(plane) = <[i64; 2]>::of(index) {
             return Ok(KeptPlace {
                 form: PlaceForm::Plane(plane),
+            });
+        }
+        if let Some(solid) = <[i64; 3]>::of(index) {
+            return Ok(KeptPlace {
+                form: PlaceForm::Solid(solid),
+            });
+        }
+        if let Some(short) = short_text(index) {
+            return Ok(KeptPlace {
+                form: PlaceForm::Short(short),
             });
         }
         Ok(KeptPlace {
@@ -61,7 +77,19 @@ impl KeptPlace {
         match &self.form {
             PlaceForm::Line(line) => line.any(),
             PlaceForm::Plane(plane) => plane.any(),
+            PlaceForm::Solid(solid) => solid.any(),
+            PlaceForm::Short(short) => AnyIndex::new(Index::Text(short.label())),
             PlaceForm::Apart(index) => **index,
         }
+    }
+}
+
+// The index as a short text, if it is one.
+fn short_text(index: &AnyIndex) -> Option<ShortLabel>
+    ensures { IfSome result (λ t. index.now ≡ index_of.Text t) }
+{
+    match index.index() {
+        Index::Text(label) => ShortLabel::of(&label),
+        Index::Point(_) => None,
     }
 }

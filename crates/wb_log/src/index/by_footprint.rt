@@ -6,21 +6,21 @@ ghost use Rattle.wb_book.specs.Kept.{element_set};
 ghost use Rattle.wb_cells.specs.declared.cells.cell.Cell.TheVariants as cell;
 ghost use Rattle.wb_cells.specs.Reads.{all_read};
 ghost use Rattle.wb_log.specs.declared.entry.Before.{Before};
-ghost use Rattle.wb_footprints.specs.Footprints.{Footprints, IsIndexOf, footprint, with_footprint};
+ghost use Rattle.wb_footprints.specs.Footprints.{Footprints, IsIndexOf, footprint, with_footprint, element_reads};
 ghost use Rattle.wb_footprints.specs.Relation.{IsLeastAfter};
 ghost use Rattle.wb_log.specs.Indexed.{IsByFootprint};
 ghost use Rattle.wb_log.specs.Kept.{by_number, kept_in, kept_all, redo_blocker};
 ghost use Rattle.wb_log.specs.Fills.{filled_in, array_reads};
-ghost use Rattle.wb_log.specs.Records.{lent_footprint, lent_kept, lent_cells, element_reads, cell_before};
+ghost use Rattle.wb_log.specs.Records.{lent_footprint, lent_kept, lent_cells, cell_before};
 ghost use Rattle.wb_log.specs.Needed.{AreFromFootprints};
 
 use crate::blockers;
-use crate::entry::{Before, EditRecord, ElementSet, LentFootprint, object_pattern};
+use crate::entry::{Before, EditRecord, ElementSet, LentFootprint};
 use crate::filled_cells::{FilledCells, runs_of};
 use crate::lent::{LentCells, LentKept};
 use crate::sweep::needing;
 use std::alloc::Global;
-use wb_cells::{Cell, CellChange, Changes, Pattern, ReadRun, Value};
+use wb_cells::{CellChange, Changes, Pattern, ReadRun, Value};
 use wb_footprints::FootIndex;
 use wb_range::NoMemory;
 
@@ -102,26 +102,27 @@ impl ByFootprint {
         }
     }
 
-    /// The number of the first edit after a place that needs one that wrote a cell.
+    /// The number of the first edit after a place that needs one that wrote the element of a set.
     pub(crate) fn first_to_meet(
         &mut self,
         entries: &[EditRecord],
         at: usize,
-        target: &Cell,
+        target: &ElementSet,
     ) -> Option<u64>
         requires in_log { at < length entries.now }
         requires few { length entries.now < 2 ^ 63 }
         requires indexed { IsByFootprint self.old (length entries.now) (by_number entries.now) }
-        ensures first { (was : Before) → result ≡ first_from (blocks_undo (cell_before target.now was)) (at + 2) (drop (at + 1) (kept_all entries.now)) }
+        ensures first { (was : Before) → result ≡ first_from (blocks_undo (cell_before (cell.Element target.now.array target.now.place) was)) (at + 2) (drop (at + 1) (kept_all entries.now)) }
         ensures indexed { IsByFootprint self.new (length entries.now) (by_number entries.now) }
     {
         self.fill(entries);
         if self.entered < entries.len() {
             let later = later_than(entries, at);
-            let one = Changes::one(CellChange::new(*target, None));
+            let one = Changes::one(CellChange::new(target.cell(), None));
             return blockers::first_to_block_undo(later, at as u64 + 2, &LentCells::Listed(&one));
         }
-        self.index.met_after(target, at as u64 + 1)
+        self.index
+            .element_met_after(&target.array, &target.place, at as u64 + 1)
     }
 
     /// The number of the first edit after a place that needs, or is needed by, a new value of an element that is there.
@@ -144,9 +145,9 @@ impl ByFootprint {
         }
         let after = at as u64 + 1;
         earlier(
-            self.index.met_after(&element.cell(), after),
             self.index
-                .first_writer(&[object_pattern(&element.array)], &[], after),
+                .element_met_after(&element.array, &element.place, after),
+            self.index.object_touched_after(&element.array, after),
         )
     }
 
@@ -217,7 +218,7 @@ impl ByFootprint {
     {
         if at < self.entered {
             self.index
-                .take_one(at as u64 + 1, &element.reads(), &element.cell());
+                .take_set(at as u64 + 1, &element.array, &element.place);
         }
     }
 
@@ -248,7 +249,7 @@ impl ByFootprint {
         let number = at as u64 + 1;
         if self
             .index
-            .add_one(number, &element.reads(), &element.cell())
+            .add_set(number, &element.array, &element.place)
             .is_err()
         {
             *self = ByFootprint::new(self.alloc);
@@ -258,6 +259,23 @@ impl ByFootprint {
 
 // Adds what is kept of an edit at its number, which has no footprint, if it is in force.
 fn add_entry(
+    alloc: Global,
+    index: &mut FootIndex,
+    number: u64,
+    entry: &EditRecord,
+) -> Result<(), NoMemory>
+    ensures ok { OnOk result ((footprints : Footprints) → IsIndexOf index.old footprints → footprints number ≡ None →
+        IsIndexOf index.new (with_footprint footprints number (kept_in entry.now))) }
+    ensures err { OnErr result ((footprints : Footprints) → IsIndexOf index.old footprints → footprints number ≡ None → IsIndexOf index.new footprints) }
+{
+    match entry.set_in_force() {
+        Some(set) => index.add_set(number, &set.0.array, &set.0.place),
+        None => add_any(alloc, index, number, entry),
+    }
+}
+
+// Adds what is kept of any edit at its number, which has no footprint, if it is in force.
+fn add_any(
     alloc: Global,
     index: &mut FootIndex,
     number: u64,

@@ -8,10 +8,10 @@ mod in_force;
 
 ghost use Rattle.std.specs.Prelude.{◌≡◌, ℕ, ◌+◌, ◌^◌, ◌<◌, Some, None};
 ghost use Rattle.wb_cells.specs.declared.cells.cell.Cell.TheVariants as cell;
-ghost use Rattle.wb_footprints.specs.Footprints.{Footprints, footprint, with_footprint};
+ghost use Rattle.wb_footprints.specs.Footprints.{Footprints, footprint, with_footprint, element_reads};
 ghost use Rattle.wb_log.specs.declared.entry.Before.{Before};
 ghost use Rattle.wb_log.specs.Indexed.{Indexes};
-ghost use Rattle.wb_log.specs.Records.{lent_kept, element_reads, cell_before};
+ghost use Rattle.wb_log.specs.Records.{lent_kept, cell_before};
 
 use crate::entry::{Before, ElementSet};
 use crate::index::by_footprint::ByFootprint;

@@ -9,12 +9,12 @@ ghost use Rattle.wb_cells.specs.Cells.{saturating_add};
 ghost use Rattle.wb_cells.specs.WellFormed.{IsWellFormed};
 ghost use Rattle.wb_edit.specs.declared.command.Command.TheVariants as command;
 ghost use Rattle.wb_edit.specs.declared.edit.Edit.TheVariants.{Command as OneCommand};
-ghost use Rattle.wb_footprints.specs.Footprints.{Footprints, with_footprint};
+ghost use Rattle.wb_footprints.specs.Footprints.{Footprints, with_footprint, element_reads};
 ghost use Rattle.wb_log.specs.declared.entry.RecordForm.TheVariants as form;
 ghost use Rattle.wb_log.specs.Indexed.{Indexes, IsIndexed};
 ghost use Rattle.wb_log.specs.Kept.{kept_in, Shows, TakenBack, LeavesWellFormed, PlansAgain, entries_meant, numbered_entries};
 ghost use Rattle.wb_log.specs.Past.{AreValid};
-ghost use Rattle.wb_log.specs.Records.{shown, element_reads};
+ghost use Rattle.wb_log.specs.Records.{shown};
 ghost use Rattle.wb_log.specs.Replies.{RedoReply};
 
 use crate::entry::{Before, EditRecord, ElementSet, RecordForm, SetRecord, Was};

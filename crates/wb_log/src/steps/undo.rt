@@ -30,7 +30,7 @@ fn undo_refusal(entries: &[EditRecord], index: &mut EditIndex, at: usize) -> Opt
     ensures refusal { MayUndo entries.now at result }
     ensures indexed { IsIndexed index.new entries.now }
 {
-    match entries[at].element_set() {
+    match entries[at].set_in_force() {
         None => undo_refusal_listed(entries, index, at),
         Some(set) => match index.by_footprint.first_to_meet(entries, at, &set.0) {
             Some(by) => Some(Refusal::Blocked(by)),

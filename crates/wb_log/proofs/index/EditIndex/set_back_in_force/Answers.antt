@@ -1,6 +1,6 @@
 use Rattle.wb_cells.specs.declared.cells.cell.Cell.TheVariants.{Element}
-use Rattle.wb_footprints.specs.Footprints.{footprint}
-use Rattle.wb_log.specs.Records.{element_reads, cell_before}
+use Rattle.wb_footprints.specs.Footprints.{footprint, element_reads}
+use Rattle.wb_log.specs.Records.{cell_before}
 use Rattle.wb_log.proofs.index.EditIndex.set_back_in_force.Goals as goal
 
 pub returns : goal.returns

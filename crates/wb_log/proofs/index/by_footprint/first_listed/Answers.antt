@@ -5,9 +5,8 @@ use Rattle.wb_book.specs.Kept.{element_set}
 use Rattle.wb_cells.specs.declared.cells.value.Value.TheVariants.{Number}
 use Rattle.wb_cells.specs.declared.changes.change.CellChange.{CellChange}
 use Rattle.wb_cells.specs.Reads.{all_read}
-use Rattle.wb_footprints.specs.Footprints.{footprint}
+use Rattle.wb_footprints.specs.Footprints.{footprint, element_reads}
 use Rattle.wb_log.specs.Kept.{kept_in, kept_all}
-use Rattle.wb_log.specs.Records.{element_reads}
 use Rattle.wb_log.proofs.Entries.{drop-map}
 use Rattle.wb_log.proofs.index.by_footprint.first_listed.Goals as goal
 

@@ -4,11 +4,11 @@ use Rattle.wb_book.specs.Kept.{element_set}
 use Rattle.wb_cells.specs.Cells.{Cells}
 use Rattle.wb_edit.specs.declared.command.Command.TheVariants.{Set}
 use Rattle.wb_edit.specs.declared.edit.Edit.TheVariants.{Command as OneCommand}
+use Rattle.wb_footprints.specs.Footprints.{element_reads}
 use Rattle.wb_log.specs.declared.entry.LoggedEdit.{LoggedEdit}
 use Rattle.wb_log.specs.Indexed.{Keeps, IsIndexed}
 use Rattle.wb_log.specs.Kept.{by_number, numbered_entries, entries_meant, PlansAgain, Shows}
 use Rattle.wb_log.specs.Past.{meant, into_force, AreValid}
-use Rattle.wb_log.specs.Records.{element_reads}
 use Rattle.wb_log.specs.Replies.{RedoReply, RedoesInPlace}
 use Rattle.wb_log.proofs.Entered.{set_indexed, no_kept}
 use Rattle.wb_log.proofs.Entries.{set_same}

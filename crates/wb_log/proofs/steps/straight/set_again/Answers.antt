@@ -9,12 +9,12 @@ use Rattle.wb_cells.specs.Cells.{Cells}
 use Rattle.wb_cells.specs.WellFormed.{IsWellFormed}
 use Rattle.wb_edit.specs.declared.command.Command.TheVariants.{Set}
 use Rattle.wb_edit.specs.declared.edit.Edit.TheVariants.{Command as OneCommand}
-use Rattle.wb_footprints.specs.Footprints.{footprint, with_footprint}
+use Rattle.wb_footprints.specs.Footprints.{footprint, with_footprint, element_reads}
 use Rattle.wb_log.specs.declared.entry.Before.TheVariants.{Number}
 use Rattle.wb_log.specs.declared.entry.LoggedEdit.{LoggedEdit}
 use Rattle.wb_log.specs.Indexed.{Indexes}
 use Rattle.wb_log.specs.Kept.{kept_in}
-use Rattle.wb_log.specs.Records.{element_reads, cell_before}
+use Rattle.wb_log.specs.Records.{cell_before}
 use Rattle.wb_log.proofs.SetAgain.{entry_again}
 use Rattle.wb_log.proofs.steps.straight.set_again.Goals as goal
 

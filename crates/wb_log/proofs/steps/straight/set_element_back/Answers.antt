@@ -5,10 +5,11 @@ use Rattle.wb_book.specs.Kept.{element_set}
 use Rattle.wb_cells.specs.declared.cells.cell.Cell.TheVariants.{Element}
 use Rattle.wb_cells.specs.Cells.{Cells}
 use Rattle.wb_cells.specs.WellFormed.{IsWellFormed}
+use Rattle.wb_footprints.specs.Footprints.{element_reads}
 use Rattle.wb_log.specs.declared.entry.Before.TheVariants.{Number}
 use Rattle.wb_log.specs.declared.entry.UndoData.{UndoData}
 use Rattle.wb_log.specs.Kept.{footprint}
-use Rattle.wb_log.specs.Records.{element_reads, cell_before}
+use Rattle.wb_log.specs.Records.{cell_before}
 use Rattle.wb_log.proofs.SetBack.{kept_as}
 use Rattle.wb_log.proofs.steps.straight.set_element_back.Goals as goal
 

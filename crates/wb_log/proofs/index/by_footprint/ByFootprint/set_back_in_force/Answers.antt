@@ -1,10 +1,10 @@
 use Rattle.std.proofs.Common.{[], ◌∷◌, ◌+◌, Some, None, sym, ap, subst, ◌∙◌}
 use Rattle.wb_cells.specs.declared.cells.cell.Cell.{Cell}
 use Rattle.wb_cells.specs.declared.cells.cell.Cell.TheVariants.{Element}
-use Rattle.wb_footprints.specs.Footprints.{IsIndexOf, footprint, with_footprint}
+use Rattle.wb_footprints.specs.Footprints.{IsIndexOf, footprint, with_footprint, element_reads}
 use Rattle.wb_footprints.proofs.Taking.{on_ok}
 use Rattle.wb_log.specs.Indexed.{up_to}
-use Rattle.wb_log.specs.Records.{value_before, element_reads, cell_before}
+use Rattle.wb_log.specs.Records.{value_before, cell_before}
 use Rattle.wb_log.proofs.Entered.{not_0}
 use Rattle.wb_log.proofs.Lists.{index_like}
 use Rattle.wb_log.proofs.SetAgain.{comes, stays_out}
@@ -39,14 +39,11 @@ returns-else-is_err c = λ was count footprints h none.
     let v = value_before was in
     let place : Cell = Element x.array x.place in
     let o = Some (footprint (element_reads x.array x.place) (cell_before place was)) in
-    let same = ap (λ (y : Cell). Some (footprint c.reads.result (record { cell = y; value = v } ∷ []))) c.cell.ensures ∙
-    ap (λ rs. Some (footprint rs (cell_before place was))) c.reads.ensures in
-    let added = on_ok c.add_one.result (sym c.is_err.ensures.value ∙ c.if-is_err.false) c.add_one.ensures.ok in
+    let added = on_ok c.add_set.result (sym c.is_err.ensures.value ∙ c.if-is_err.false) c.add_set.ensures.ok in
     let now = added (up_to e footprints) v h.index (there e at footprints None c.if-at-self.false none) in
     record {
       from_1 = not_0 at footprints o h.from_1;
       within = h.within;
-      index = index_like c.add_one.new.self (with_footprint (up_to e footprints) n o) (up_to e (with_footprint footprints n o))
-          (λ m. comes e at footprints o m c.if-at-self.false)
-          (subst (λ p. IsIndexOf c.add_one.new.self (with_footprint (up_to e footprints) n p)) same now);
+      index = index_like c.add_set.new.self (with_footprint (up_to e footprints) n o) (up_to e (with_footprint footprints n o))
+          (λ m. comes e at footprints o m c.if-at-self.false) now;
     }

@@ -14,12 +14,9 @@ returns-then-at-self c = λ count footprints h had.
     let n = c.args.at + 1 in
     let e = c.args.self.now.entered in
     let v = value_before c.args.was.now in
-    let x : Cell = Element c.args.element.now.array c.args.element.now.place in
-    let these = ap (λ rs. Some (footprint rs (cell_before x c.args.was.now))) (sym c.reads.ensures) ∙
-    ap (λ (y : Cell). Some (footprint c.reads.result (record { cell = y; value = v } ∷ []))) (sym c.cell.ensures) in
-    let gone = c.take_one.ensures (up_to e footprints) v h.index (there e c.args.at footprints _ c.if-at-self.true (had ∙ these)) in
+    let gone = c.take_set.ensures (up_to e footprints) v h.index (there e c.args.at footprints _ c.if-at-self.true had) in
     record {
       from_1 = not_0 c.args.at footprints None h.from_1;
       within = h.within;
-      index = index_like c.take_one.new.self (with_footprint (up_to e footprints) n None) (up_to e (with_footprint footprints n None)) (left e n footprints) gone;
+      index = index_like c.take_set.new.self (with_footprint (up_to e footprints) n None) (up_to e (with_footprint footprints n None)) (left e n footprints) gone;
     }
