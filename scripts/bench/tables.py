@@ -32,13 +32,12 @@ def of_lines(of):
 def of_index(of):
     one, fills = of["set"], of["fills"]
     kept = [fill["kept"] for fill in fills]
-    over = ["%g for %d" % (aim, fill["cells"]) for fill, aim in zip(fills, (400, 500))]
-    missed = any(fill["kept"] > aim for fill, aim in zip(fills, (400, 500)))
+    missed = any(fill["kept"] > 360 + 16 * (fill["cells"] - 1) for fill in fills)
     return [
-        ("a `set`; more in the index", "%s; %s bytes" % (short(one["kept"]), short(one["index"])), aimed("both %s" % short(one["kept"] + one["index"]), one["kept"] + one["index"], 300)),
-        ("an `add` to an associative domain", "%s bytes" % short(of["add"]["kept"]), aimed("", of["add"]["kept"], 400)),
+        ("a `set`; more in the index", "%s; %s bytes" % (short(one["kept"]), short(one["index"])), aimed("both %s" % short(one["kept"] + one["index"]), one["kept"] + one["index"], 263)),
+        ("an `add` to an associative domain", "%s bytes" % short(of["add"]["kept"]), aimed("", of["add"]["kept"], 320)),
         ("a fill of %s cells; more in the index" % ", ".join(str(fill["cells"]) for fill in fills),
-         "%s; %s bytes" % (listed(kept), listed(fill["index"] for fill in fills)), "aim %s%s" % (", ".join(over), ", missed" if missed else "")),
+         "%s; %s bytes" % (listed(kept), listed(fill["index"] for fill in fills)), "aim 360 for 1, 16 a further cell%s" % (", missed" if missed else "")),
         ("an undo of such a fill by number", "%s µs" % listed(fill["undo_us"] for fill in fills), "among {:,}".format(fills[0]["edits"])),
         ("the first undo by number", "%s ms" % short(one["first_ms"]), "after {:,} sets".format(one["edits"])),
     ]
@@ -148,11 +147,10 @@ def of_journal(of):
 
 
 def of_slow_lines(of):
-    rows = []
-    for it in of["lines"][:7]:
-        beside = aimed("", it["ms"], 5) if it["line"] == "the drop of an associative domain" else ""
-        rows.append(("%s, {:,} cells".format(it["cells"]) % it["line"], "%s ms" % short(it["ms"]), beside))
-    return rows
+    """The lines above the aim beyond what they touch, and the first within it."""
+    above = [it for it in of["lines"] if it["beyond"] > 50]
+    rows = of["lines"][: len(above) + 1]
+    return [("%s, {:,} cells".format(it["cells"]) % it["line"], "%s ms" % short(it["ms"]), aimed("%s beyond" % short(it["beyond"]), it["beyond"], 50)) for it in rows]
 
 
 def undo_picture(of):
